@@ -1,0 +1,89 @@
+-- Paper 01's plan 12, "One plan, worked": its tables and the answers from two windows' numbers come out of the
+-- definitions by computation.
+-- Assumes nothing.
+use Prim.Native.Nat.{ℕ, _+_, min, max}
+use mathlib.Core.Bool.{Bool, true, not, _&&_}
+use mathlib.Core.Path.{_≡_, refl}
+use mathlib.Core.List.{List, [], _∷_, flatMap}
+use lib.ListN.{getD}
+use lib.Dec.{ltb, leb, eqb}
+use Rattle.sequences.specs.Search.{least, greatest, count, passing}
+use Rattle.sequences.specs.Lists.{indexOf}
+use Rattle.sequences.specs.Table.{table}
+use Rattle.interval_graph.specs.Chain.{handovers, isChain, leads, joins, firstEntry, lastEntry}
+use Rattle.interval_graph.specs.Tree.{last, parent, isRoot, ancestor, depth, root, component}
+use Rattle.interval_graph.specs.PostOrder.{children, postOrderTo, postOrder, rank, lastRank}
+use Rattle.interval_graph.specs.Numbers.{Outcome, numbersOf, apart, no-chain, equal, comesFirst, between, outcome}
+
+unfoldable pub offsets : List ℕ
+offsets = 0 ∷ 2 ∷ 4 ∷ 9 ∷ 12 ∷ 17 ∷ 18 ∷ []
+
+unfoldable pub lengths : List ℕ
+lengths = 10 ∷ 3 ∷ 12 ∷ 2 ∷ 6 ∷ 1 ∷ 4 ∷ []
+
+-- Two different windows overlap when the later offset lies before the earlier end.
+unfoldable pub overlaps : ℕ → ℕ → Bool
+overlaps u v =
+    not (eqb u v)
+    && ltb (max (getD offsets u 0) (getD offsets v 0))
+    (min (getD offsets u 0 + getD lengths u 0) (getD offsets v 0 + getD lengths v 0))
+
+-- What a computation of plan 12 opens: naming it on an `unfolding` line opens all that its own line names.
+unfoldable pub definitions : Unit {0}
+unfolding table overlaps offsets lengths last parent isRoot ancestor depth root component children postOrderTo postOrder rank lastRank least greatest count passing indexOf flatMap outcome equal comesFirst between numbersOf handovers isChain leads joins firstEntry lastEntry
+definitions = tt
+
+-- A line of the paper's listing after its position: parent, component, depth, rank, rank of the last.
+unfoldable pub row : ℕ → List ℕ
+row v =
+    parent overlaps v
+    ∷ component overlaps v
+    ∷ depth overlaps v
+    ∷ rank 7 overlaps v
+    ∷ lastRank 7 overlaps v
+    ∷ []
+
+pub plan-12-tables : table row 7
+    ≡ (0 ∷ 0 ∷ 0 ∷ 5 ∷ 4 ∷ [])
+    ∷ (0 ∷ 0 ∷ 1 ∷ 0 ∷ 3 ∷ [])
+    ∷ (0 ∷ 0 ∷ 1 ∷ 3 ∷ 2 ∷ [])
+    ∷ (0 ∷ 0 ∷ 1 ∷ 4 ∷ 4 ∷ [])
+    ∷ (2 ∷ 0 ∷ 2 ∷ 2 ∷ 1 ∷ [])
+    ∷ (4 ∷ 0 ∷ 3 ∷ 1 ∷ 1 ∷ [])
+    ∷ (6 ∷ 1 ∷ 0 ∷ 0 ∷ 0 ∷ [])
+    ∷ []
+unfolding definitions row
+plan-12-tables = refl
+
+-- The paper's nine answers, each from the numbers of the two windows alone, in either order of naming.
+unfoldable pub answer : ℕ → ℕ → Outcome
+answer u v = outcome (numbersOf 7 overlaps 12 u) (numbersOf 7 overlaps 12 v)
+
+unfoldable pub answers : List Outcome
+answers = answer 0 5 ∷ answer 1 5 ∷ answer 3 5 ∷ answer 2 3 ∷ answer 1 3 ∷ answer 3 4 ∷ answer 4 5 ∷ answer 5 6 ∷ answer 6 6 ∷ []
+
+unfoldable pub answers-reversed : List Outcome
+answers-reversed = answer 5 0 ∷ answer 5 1 ∷ answer 5 3 ∷ answer 3 2 ∷ answer 3 1 ∷ answer 4 3 ∷ answer 5 4 ∷ answer 6 5 ∷ answer 6 6 ∷ []
+
+pub plan-12-answers : answers
+    ≡ apart 3 ∷ apart 3 ∷ apart 3 ∷ apart 1 ∷ apart 2 ∷ apart 2 ∷ apart 1 ∷ no-chain ∷ apart 0 ∷ []
+unfolding definitions answer answers
+plan-12-answers = refl
+
+pub plan-12-answers-reversed : answers-reversed ≡ answers
+unfolding definitions answer answers answers-reversed
+plan-12-answers-reversed = refl
+
+-- The paper's chains join their windows with as many handovers as the answers say.
+pub plan-12-chains : joins 7 overlaps 0 5 (5 ∷ 4 ∷ 2 ∷ 0 ∷ [])
+    && (joins 7 overlaps 3 5 (5 ∷ 4 ∷ 2 ∷ 3 ∷ [])
+    && (joins 7 overlaps 1 3 (3 ∷ 0 ∷ 1 ∷ [])
+    && joins 7 overlaps 6 6 (6 ∷ [])))
+    ≡ true
+unfolding definitions
+plan-12-chains = refl
+
+pub plan-12-handovers : handovers (5 ∷ 4 ∷ 2 ∷ 0 ∷ []) ∷ handovers (5 ∷ 4 ∷ 2 ∷ 3 ∷ []) ∷ handovers (3 ∷ 0 ∷ 1 ∷ []) ∷ handovers (6 ∷ []) ∷ []
+    ≡ 3 ∷ 3 ∷ 2 ∷ 0 ∷ []
+unfolding definitions
+plan-12-handovers = refl

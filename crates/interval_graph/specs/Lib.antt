@@ -1,0 +1,12 @@
+-- What the product computes, over a number n of windows and an overlap test on their positions. Nothing here
+-- knows of minutes or bytes. In reading order:
+--   Chain      chains of any overlap test, their handovers, least numbers, shortest and earliest chains
+--   Order      what is asked of the overlap test of a plan: interval order
+--   Tree       last, parent, root, depth, component
+--   PostOrder  children, post-order, rank
+--   Numbers    the five numbers of a window, and what two windows' numbers say of their distance
+pub mod Chain
+pub mod Order
+pub mod Tree
+pub mod PostOrder
+pub mod Numbers

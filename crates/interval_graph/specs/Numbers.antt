@@ -1,0 +1,59 @@
+-- Paper 01, "Tag": the five numbers, and the rule on two tags, both on plain numbers.
+-- Vocabulary: Numbers, numbersOf, Outcome, equal, comesFirst, between, outcome.
+use Prim.Native.Nat.{ℕ, _+_, _-_}
+use mathlib.Core.Bool.{Bool, cond, _&&_, _||_}
+use lib.Dec.{ltb, leb, eqb}
+use Rattle.interval_graph.specs.Tree as Tree
+use Rattle.interval_graph.specs.PostOrder as PostOrder
+
+-- "Five numbers …: plan number, component, depth, rank, rank of the last."
+pub record Numbers : Type 0 where
+  pub plan : ℕ
+  pub component : ℕ
+  pub depth : ℕ
+  pub rank : ℕ
+  pub last : ℕ
+
+-- The numbers of the window at position v, among n windows with an overlap test.
+unfoldable pub numbersOf : ℕ → (ℕ → ℕ → Bool) → ℕ → ℕ → Numbers
+numbersOf n overlaps plan v =
+    record {
+      plan = plan;
+      component = Tree.component overlaps v;
+      depth = Tree.depth overlaps v;
+      rank = PostOrder.rank n overlaps v;
+      last = PostOrder.lastRank n overlaps v;
+    }
+
+-- What the numbers of two windows say: "a number of handovers; no chain".
+pub data Outcome : Type 0 where
+  apart : ℕ → Outcome
+  no-chain : Outcome
+
+unfoldable pub equal : Numbers → Numbers → Bool
+equal u v =
+    eqb (u .plan) (v .plan)
+    && (eqb (u .component) (v .component)
+    && (eqb (u .depth) (v .depth)
+    && (eqb (u .rank) (v .rank)
+    && eqb (u .last) (v .last))))
+
+-- "u is the tag with smaller depth, or smaller rank at equal depth"
+unfoldable pub comesFirst : Numbers → Numbers → Bool
+comesFirst u v = ltb (u .depth) (v .depth) || (eqb (u .depth) (v .depth) && ltb (u .rank) (v .rank))
+
+-- "D is depth v − depth u.
+--  Rank u < rank v: D + 1 if rank v ≤ last u or last u < rank u; else D + 2.
+--  Rank u > rank v: D if rank v ≤ last u and last u < rank u; else D + 1."
+unfoldable pub between : Numbers → Numbers → ℕ
+between u v =
+    let D = v .depth - u .depth in
+    cond (ltb (u .rank) (v .rank))
+    (cond (leb (v .rank) (u .last) || ltb (u .last) (u .rank)) (D + 1) (D + 2))
+    (cond (leb (v .rank) (u .last) && ltb (u .last) (u .rank)) D (D + 1))
+
+-- "Equal tags give 0, different components no chain. Otherwise …"
+unfoldable pub outcome : Numbers → Numbers → Outcome
+outcome u v =
+    cond (equal u v) (apart 0)
+    (cond (eqb (u .component) (v .component)) (apart (cond (comesFirst u v) (between u v) (between v u))) no-chain)

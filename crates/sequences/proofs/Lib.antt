@@ -1,0 +1,6 @@
+-- Laws, in the order in which they rest on one another.
+pub mod Tests
+pub mod Search
+pub mod Passing
+pub mod Lists
+pub mod Table

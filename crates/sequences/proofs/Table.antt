@@ -1,0 +1,57 @@
+-- Laws of `table` and `overwritten`: what a pass that writes a table from the front needs.
+-- Assumes nothing.
+use Prim.Native.Nat.{ℕ, zero, suc, _+_, _-_, _≤_, _<_}
+use mathlib.Core.Path.{_≡_, refl, sym, ap, _∙_}
+use mathlib.Core.Logic.{_⊎_, ⊎-elim}
+use mathlib.Core.List.{List, [], _∷_, _++_, append-assoc}
+use native.Mathlib.Omega.{arith}
+use lib.ListN.{length, getD, take, drop, set, length-append, length-drop, List·getD-append}
+use lib.Seq.{set-at, drop-cons, take-at, getD-at}
+use Rattle.sequences.specs.Table.{table, overwritten}
+use Rattle.sequences.proofs.Tests.{lt-or-ge}
+
+module _ {A : Type 0} where
+  pub length-table : (f : ℕ → A) (n : ℕ) → length (table f n) ≡ n
+  unfolding table
+  length-table f zero = refl
+  length-table f (suc n) = omega (arith, length-append (table f n) (f n ∷ []), length-table f n)
+
+  -- The entry at k is f k.
+  pub getD-table : (f : ℕ → A) (n k : ℕ) (d : A) → k < n → getD (table f n) k d ≡ f k
+  unfolding table
+  getD-table f zero k d h = absurd (omega arith)
+  getD-table f (suc n) k d h =
+      ⊎-elim
+      (λ g. List·getD-append (table f n) (f n ∷ []) d k (omega (arith, length-table f n)) ∙ getD-table f n k d g)
+      (λ g. let e : k ≡ n = omega arith in rw e (getD-at (table f n) (f n) [] d n (length-table f n)))
+      (lt-or-ge k n)
+
+  -- A table depends on f below n only.
+  pub table-cong : (f g : ℕ → A) (n : ℕ) → ((k : ℕ) → k < n → f k ≡ g k) → table f n ≡ table g n
+  unfolding table
+  table-cong f g zero e = refl
+  table-cong f g (suc n) e =
+      let below : table f n ≡ table g n = table-cong f g n (λ k h. e k (omega arith)) in
+      let here : f n ≡ g n = e n (omega arith) in
+      rw (below, here)
+
+  -- One store more: the turn of every pass that fills a table.
+  pub table-turn : (f : ℕ → A) (l : List A) (v : ℕ) → v < length l → set (table f v ++ drop v l) v (f v) ≡ table f (suc v) ++ drop (suc v) l
+  unfolding table
+  table-turn f l v h =
+      rw (drop-cons l v (f v) h, set-at (table f v) (getD l v (f v)) (drop (suc v) l) (f v) v (length-table f v), append-assoc)
+
+  pub length-overwritten : (l new : List A) → length new ≤ length l → length (overwritten l new) ≡ length l
+  unfolding overwritten
+  length-overwritten l new h =
+      omega (arith, length-append new (drop (length new) l), length-drop (length new) l)
+
+  -- The front is what was written.
+  pub take-overwritten : (l new : List A) → take (length new) (overwritten l new) ≡ new
+  unfolding overwritten
+  take-overwritten l new = take-at new (drop (length new) l) (length new) refl
+
+  -- A table of n entries, overwritten, as a pass leaves it.
+  pub overwritten-table : (f : ℕ → A) (n : ℕ) (l : List A) → overwritten l (table f n) ≡ table f n ++ drop n l
+  unfolding overwritten
+  overwritten-table f n l = rw length-table

@@ -1,0 +1,61 @@
+-- Tests and cases: what every proof above splits on.
+-- Vocabulary: cond-cases, lt-or-ge, truth (is a test true or false), and-*, or-*, not-*.
+-- Assumes nothing.
+use Prim.Native.Nat.{ℕ, zero, suc, _≤_, _<_}
+use mathlib.Core.Bool.{Bool, true, false, cond, not, _&&_, _||_, true≢false}
+use mathlib.Core.Path.{_≡_, refl, sym, ap, _∙_}
+use mathlib.Core.Logic.{_⊎_, inl, inr, ⊎-elim}
+use lib.Dec.{ltb, leb, eqb}
+use borrow.Author.Tests.{ltb-true, ltb-false, leb-true, leb-false, eqb-true, eqb-false, lt-ltb, le-ltb, le-leb, lt-leb, eq-eqb, ne-eqb}
+
+-- from a test to the fact, for `omega (arith, tests)`
+pub ruleset tests = (ltb-true, ltb-false, leb-true, leb-false, eqb-true, eqb-false)
+
+-- from the fact to the test, for `search answers` at a return
+pub ruleset answers = (lt-ltb, le-ltb, le-leb, lt-leb, eq-eqb, ne-eqb)
+
+-- A test is true or false.
+pub truth : (t : Bool) → (t ≡ true) ⊎ (t ≡ false)
+truth true = inl refl
+truth false = inr refl
+
+pub true-false-absurd : (t : Bool) → t ≡ true → t ≡ false → ⊥
+true-false-absurd t p q = true≢false (sym p ∙ q)
+
+-- What holds of both answers holds of the choice between them.
+pub cond-cases {ℓ} : {A : Type 0} (P : A → Type ℓ) (t : Bool) {a b : A} → (t ≡ true → P a) → (t ≡ false → P b) → P (cond t a b)
+cond-cases P true f g = f refl
+cond-cases P false f g = g refl
+
+pub lt-or-ge : (a b : ℕ) → (a < b) ⊎ (b ≤ a)
+lt-or-ge a b = ⊎-elim (λ t. inl (ltb-true a b t)) (λ t. inr (ltb-false a b t)) (truth (ltb a b))
+
+pub and-left : (s t : Bool) → (s && t) ≡ true → s ≡ true
+and-left true t p = refl
+and-left false t p = p
+
+pub and-right : (s t : Bool) → (s && t) ≡ true → t ≡ true
+and-right true t p = p
+and-right false t p = absurd (true≢false (sym p))
+
+pub and-intro : (s t : Bool) → s ≡ true → t ≡ true → (s && t) ≡ true
+and-intro true t p q = q
+and-intro false t p q = p
+
+pub or-cases : (s t : Bool) → (s || t) ≡ true → (s ≡ true) ⊎ (t ≡ true)
+or-cases true t p = inl refl
+or-cases false t p = inr p
+
+pub or-left : (s t : Bool) → s ≡ true → (s || t) ≡ true
+or-left true t p = refl
+or-left false t p = absurd (true≢false (sym p))
+
+pub or-right : (s t : Bool) → t ≡ true → (s || t) ≡ true
+or-right true t p = refl
+or-right false t p = p
+
+-- A test that is true exactly if another is, is that other.
+pub iff-equal : (s t : Bool) → (s ≡ true → t ≡ true) → (t ≡ true → s ≡ true) → s ≡ t
+iff-equal true t f g = sym (f refl)
+iff-equal false true f g = g refl
+iff-equal false false f g = refl
