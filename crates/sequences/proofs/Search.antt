@@ -138,3 +138,20 @@ count-every p a zero h = let e : a + zero ≡ a = omega arith in rw e (omega ari
 count-every p a (suc k) h =
     let e : a + suc k ≡ suc (a + k) = omega arith in
     rw e (omega (arith, count-true p (a + k) (h (a + k) (omega arith) (omega arith)), count-every p a k (λ i l r. h i l (omega arith))))
+
+-- A test that passes from a up to, not including, b counts b - a numbers, wherever the count stops past b.
+pub count-range : (p : ℕ → Bool) (a b n : ℕ) → ((k : ℕ) → k < a → p k ≡ false) → ((k : ℕ) → a ≤ k → k < b → p k ≡ true) → ((k : ℕ) → b ≤ k → p k ≡ false) → b ≤ n → count p n ≡ b - a
+unfolding count
+count-range p a b n before within after le =
+    let start : count p (0 + a) ≡ 0 = count-none p 0 a (λ i l r. before i (omega arith)) in
+    ⊎-elim
+    (λ h.
+    let e : n ≡ 0 + a + (b - a) + (n - b) = omega arith in
+    let middle : count p (0 + a + (b - a)) ≡ count p (0 + a) + (b - a) = count-every p (0 + a) (b - a) (λ i l r. within i (omega arith) (omega arith)) in
+    let rest : count p (0 + a + (b - a) + (n - b)) ≡ count p (0 + a + (b - a)) = count-none p (0 + a + (b - a)) (n - b) (λ i l r. after i (omega arith)) in
+    omega (arith, ap (count p) e))
+    (λ h.
+    let e : n ≡ 0 + n = omega arith in
+    let none : count p (0 + n) ≡ 0 = count-none p 0 n (λ i l r. ⊎-elim (λ g. before i g) (λ g. after i (omega arith)) (lt-or-ge i a)) in
+    omega (arith, ap (count p) e))
+    (lt-or-ge a b)

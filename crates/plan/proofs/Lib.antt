@@ -1,0 +1,8 @@
+-- Laws, in the order in which they rest on one another.
+--   Validation  what each answer of `validate` shows
+--   Accepted    what is known of an accepted plan's windows
+--   Overlap     overlap by minutes, by ends, and in interval order
+pub mod Validation
+pub mod Accepted
+pub mod Overlap
+pub mod Plan12

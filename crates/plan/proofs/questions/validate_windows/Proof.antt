@@ -1,0 +1,94 @@
+-- `plan::questions::validate_windows` meets its contract. The loop's invariant is `Passed`: the offset before `position`, and
+-- the questions that are left give the answer of all. The measure is what is left of the windows.
+-- Assumes nothing.
+use Prim.Native.Nat.{_-_}
+use mathlib.Core.Path.{sym, _∙_}
+use Rattle.plan.specs.File.{fileLength, headerLength, windowLength}
+use Rattle.plan.proofs.Validation.{Passed, passed-start, passed-turn, passed-fault, passed-end, window-at}
+use native.Mathlib.Omega.{arith}
+use borrow.Author.Needs.{needs}
+use Rattle.plan.proofs.questions.validate_windows.Statement.{statement}
+use Rattle.plan.proofs.questions.validate_windows.Tie as tie
+
+abbrev Inv-loop : tie.InvT-loop
+Inv-loop file plan windows before₀ position₀ before position = Passed file plan windows before position
+
+abbrev μ-loop : tie.MeasureT-loop
+μ-loop file plan windows before₀ position₀ before position = windows - position
+
+loop-holds : tie.Need-loop-holds Inv-loop μ-loop
+loop-holds c = passed-start _ _ _
+
+cast-at : tie.Need-cast-at Inv-loop μ-loop
+cast-at c = search needs
+
+mul-at : tie.Need-mul-at Inv-loop μ-loop
+mul-at c = search needs
+
+add-at : tie.Need-add-at Inv-loop μ-loop
+add-at c = search needs
+
+add-read-window : tie.Need-add-read-window Inv-loop μ-loop
+add-read-window c = search needs
+
+sub-read-window : tie.Need-sub-read-window Inv-loop μ-loop
+sub-read-window c = search needs
+
+part-read-window-start : tie.Need-part-read-window-start Inv-loop μ-loop
+part-read-window-start c = search needs
+
+part-read-window-end : tie.Need-part-read-window-end Inv-loop μ-loop
+unfolding fileLength headerLength windowLength
+part-read-window-end c = omega arith
+
+read-window-requires : tie.Need-read-window-requires Inv-loop μ-loop
+read-window-requires c κs = search needs
+
+fault-requires : tie.Need-fault-requires Inv-loop μ-loop
+fault-requires c κs = search needs
+
+refused-requires : tie.Need-refused-requires Inv-loop μ-loop
+refused-requires c κs = search needs
+
+returns : tie.Need-returns Inv-loop μ-loop
+returns c = let d = c .before .before .before .before .before .before in
+    c .refused .ensures
+    ∙ passed-fault _ _ _ _ _ _ (c .before .before .before .before .before .loop-test .taken) (d .loop .inv)
+    (window-at _ _ _ (c .before .before .before .read-window .ensures)) _ (c .before .before .fault .ensures) (c .before .if1 .taken)
+
+add-position : tie.Need-add-position Inv-loop μ-loop
+add-position c = search needs
+
+loop-less : tie.Need-loop-less Inv-loop μ-loop
+loop-less c = search needs
+
+loop-again : tie.Need-loop-again Inv-loop μ-loop
+loop-again c = let d = c .before .before .before .before .before in
+    passed-turn _ _ _ _ _ _ (c .before .before .before .before .loop-test .taken) (d .loop .inv)
+    (window-at _ _ _ (c .before .before .read-window .ensures)) (sym (c .before .fault .ensures) ∙ c .if1 .left)
+
+returns-2 : tie.Need-returns-2 Inv-loop μ-loop
+returns-2 c = passed-end _ _ _ _ _ (c .loop-test .left) (c .before .loop .inv)
+
+pub validate-windows-spec : {M : Type 1} → statement M
+validate-windows-spec =
+    tie.close
+    (tie.spec
+    Inv-loop
+    μ-loop
+    loop-holds
+    cast-at
+    mul-at
+    add-at
+    add-read-window
+    sub-read-window
+    part-read-window-start
+    part-read-window-end
+    read-window-requires
+    fault-requires
+    refused-requires
+    returns
+    add-position
+    loop-less
+    loop-again
+    returns-2)

@@ -1,0 +1,3 @@
+-- Laws, in the order in which they rest on one another.
+pub mod LittleEndian
+pub mod Question

@@ -1,0 +1,5 @@
+-- Bytes and refusals, in reading order.
+--   LittleEndian  numbers of two and four bytes in a list of bytes
+--   Question      paper 01's questions: a list of them, of which the first "no" is the answer
+pub mod LittleEndian
+pub mod Question
