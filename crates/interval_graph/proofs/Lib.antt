@@ -1,1 +1,6 @@
+-- Laws, in the order in which they rest on one another.
+pub mod Last
+pub mod Parent
+pub mod Ancestor
+pub mod Depth
 pub mod Plan12
