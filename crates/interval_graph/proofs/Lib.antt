@@ -3,4 +3,7 @@ pub mod Last
 pub mod Parent
 pub mod Ancestor
 pub mod Depth
+pub mod Component
+pub mod Chains
+pub mod Climb
 pub mod Plan12
