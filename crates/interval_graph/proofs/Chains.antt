@@ -23,6 +23,10 @@ last-snoc [] y = refl
 last-snoc (x ∷ []) y = refl
 last-snoc (x ∷ (z ∷ l)) y = last-snoc (z ∷ l) y
 
+pub last-table : (f : ℕ → ℕ) (k : ℕ) → lastEntry (table f (suc k)) ≡ f k
+unfolding table
+last-table f k = last-snoc (table f k) (f k)
+
 pub last-reverse : (l : List ℕ) → lastEntry (reverse l) ≡ firstEntry l
 unfolding lastEntry firstEntry
 last-reverse [] = refl

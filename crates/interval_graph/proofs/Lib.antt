@@ -6,4 +6,6 @@ pub mod Depth
 pub mod Component
 pub mod Chains
 pub mod Climb
+pub mod Walk
+pub mod ShortestChain
 pub mod Plan12
