@@ -8,4 +8,6 @@ pub mod Chains
 pub mod Climb
 pub mod Walk
 pub mod ShortestChain
+pub mod PostOrder
+pub mod Rank
 pub mod Plan12
