@@ -10,4 +10,7 @@ pub mod Walk
 pub mod ShortestChain
 pub mod PostOrder
 pub mod Rank
+pub mod Size
+pub mod Level
+pub mod Rule
 pub mod Plan12
