@@ -13,4 +13,7 @@ pub mod Rank
 pub mod Size
 pub mod Level
 pub mod Rule
+pub mod Bounds
+pub mod Reach
+pub mod Sameness
 pub mod Plan12
