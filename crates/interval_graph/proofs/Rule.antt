@@ -5,7 +5,7 @@
 use Prim.Native.Nat.{ℕ, zero, suc, _+_, _-_, _≤_, _<_, min, max}
 use mathlib.Core.Bool.{Bool, true, false, cond, _&&_, _||_}
 use mathlib.Core.Path.{_≡_, refl, sym, ap, _∙_}
-use mathlib.Core.Logic.{_⊎_, inl, inr, ⊎-elim, _↔_}
+use mathlib.Core.Logic.{⊎-elim, _↔_}
 use native.Mathlib.Omega.{arith}
 use lib.Dec.{ltb, leb, eqb}
 use borrow.Author.Tests.{ltb-true, ltb-false, leb-true, leb-false, eqb-true, lt-ltb, le-ltb, eq-eqb, ne-eqb}
@@ -15,7 +15,7 @@ use Rattle.interval_graph.specs.Chain.{handovers, Joined, LeastHandovers
 use Rattle.interval_graph.specs.Tree.{last, ancestor, depth, root, component}
 use Rattle.interval_graph.specs.Walk.{climb, walk, chainOf}
 use Rattle.interval_graph.specs.PostOrder.{rank, lastRank}
-use Rattle.interval_graph.specs.Numbers.{Numbers, numbersOf, Outcome, apart, no-chain, equal, comesFirst, between, outcome}
+use Rattle.interval_graph.specs.Numbers.{Numbers, numbersOf, apart, no-chain, equal, comesFirst, between, outcome}
 use Rattle.interval_graph.proofs.Ancestor.{ancestor-zero}
 use Rattle.interval_graph.proofs.Depth.{depth-monotone}
 use Rattle.interval_graph.proofs.Component.{root-component, component-root}
@@ -86,7 +86,7 @@ module _ {n : ℕ} {overlaps : ℕ → ℕ → Bool} (ok : IntervalOrder n overl
       between-pair u v p q (depth overlaps v - depth overlaps u)
       (record { order = h; window = g; one-root = e; levels = omega (arith, depth-monotone ok u v (omega arith) g e) })
 
-  -- The numbers tell which window is the earlier.
+  -- The numbers tell which window is the earlier: it comes first.
   pub first-earlier : (u v p q : ℕ) → u < v → v < n → root overlaps u ≡ root overlaps v → comesFirst (numbersOf n overlaps p u) (numbersOf n overlaps q v) ≡ true
   unfolding comesFirst numbersOf
   first-earlier u v p q h g e =
@@ -100,6 +100,7 @@ module _ {n : ℕ} {overlaps : ℕ → ℕ → Bool} (ok : IntervalOrder n overl
       (lt-ltb (rank n overlaps u) (rank n overlaps v) (rank-lt-iff ok u v 0 (omega arith) g e (omega arith) .1 (omega (arith, ancestor-zero overlaps v))))))
       (lt-or-ge (depth overlaps u) (depth overlaps v))
 
+  -- The later window does not come first.
   pub first-not-later : (u v p q : ℕ) → u < v → v < n → root overlaps u ≡ root overlaps v → comesFirst (numbersOf n overlaps p v) (numbersOf n overlaps q u) ≡ false
   unfolding comesFirst numbersOf
   first-not-later u v p q h g e =
