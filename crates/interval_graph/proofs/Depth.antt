@@ -39,7 +39,7 @@ module _ (overlaps : ℕ → ℕ → Bool) where
       ⊎-elim (λ h. h) (λ h. absurd (eqb-false (parent overlaps v) v t (omega (arith, parent-le overlaps v))))
       (lt-or-ge (parent overlaps v) v)
 
-  -- Each step below the depth lowers the position.
+  -- Steps that meet no root lower the position by as many, at least.
   pub ancestor-falls : (i v : ℕ) → ((j : ℕ) → j < i → isRoot overlaps (ancestor overlaps j v) ≡ false) → ancestor overlaps i v + i ≤ v
   unfolding ancestor
   ancestor-falls zero v h = omega arith

@@ -30,14 +30,14 @@ pub record Pair (n : ℕ) (overlaps : ℕ → ℕ → Bool) (u v D : ℕ) : Type
   pub levels : depth overlaps v ≡ depth overlaps u + D
 
 module _ {n : ℕ} {overlaps : ℕ → ℕ → Bool} (ok : IntervalOrder n overlaps) where
-  -- An ancestor of v that is no higher than u is on the level that the steps say, and in the component.
+  -- An ancestor of v that is no higher than u is as much deeper than u as steps are left of the D, and has u's root.
   level-depth : (u v D i k : ℕ) → Pair n overlaps u v D → D ≡ i + k → depth overlaps (ancestor overlaps i v) ≡ depth overlaps u + k
   level-depth u v D i k p e = omega (arith, depth-ancestor overlaps i v (omega (arith, p .levels)), p .levels)
 
   level-root : (u v D i : ℕ) → Pair n overlaps u v D → root overlaps (ancestor overlaps i v) ≡ root overlaps u
   level-root u v D i p = root-of-ancestor overlaps i v ∙ sym (p .one-root)
 
-  -- An ancestor of v two levels below u or more lies behind the last of u.
+  -- An ancestor of v that is deeper than the last of u stands behind it.
   level-behind : (u v D i k : ℕ) → Pair n overlaps u v D → D ≡ i + k → depth overlaps (last n overlaps u) < depth overlaps u + k → last n overlaps u < ancestor overlaps i v
   level-behind u v D i k p e h =
       shallower-earlier ok (last n overlaps u) (ancestor overlaps i v) (last-below ok u (omega (arith, p .order, p .window)))
