@@ -3,10 +3,12 @@
 --   Chain      chains of any overlap test, their handovers, least numbers, shortest and earliest chains
 --   Order      what is asked of the overlap test of a plan: interval order
 --   Tree       last, parent, root, depth, component
+--   Walk       the chain that is written between two windows
 --   PostOrder  children, post-order, rank
 --   Numbers    the five numbers of a window, and what two windows' numbers say of their distance
 pub mod Chain
 pub mod Order
 pub mod Tree
+pub mod Walk
 pub mod PostOrder
 pub mod Numbers

@@ -3,4 +3,6 @@ pub mod Tests
 pub mod Search
 pub mod Passing
 pub mod Lists
+pub mod FlatMap
+pub mod Pairwise
 pub mod Table

@@ -125,6 +125,19 @@ count-cong p q (suc n) e =
     let here : p n ≡ q n = e n (omega arith) in
     rw (below, here)
 
+-- One number more that passes adds one.
+pub count-insert : (p q : ℕ → Bool) (z n : ℕ) → z < n → p z ≡ false → q z ≡ true → ((k : ℕ) → (k ≡ z → ⊥) → p k ≡ q k) → count q n ≡ suc (count p n)
+count-insert p q z zero h f t e = absurd (omega arith)
+count-insert p q z (suc n) h f t e =
+    ⊎-elim
+    (λ g. let rest : count q n ≡ suc (count p n) = count-insert p q z n g f t e in
+    let same : p n ≡ q n = e n (λ d. omega arith) in
+    ⊎-elim (λ s. omega (arith, count-true p n s, count-true q n (sym same ∙ s)))
+    (λ s. omega (arith, count-false p n s, count-false q n (sym same ∙ s))) (truth (p n)))
+    (λ g. let d : z ≡ n = omega arith in
+    omega (arith, count-false p n (rw d at f), count-true q n (rw d at t), count-cong p q n (λ k l. e k (λ s. omega arith))))
+    (lt-or-ge z n)
+
 -- Where nothing from a on passes, the count from a on stands still.
 pub count-none : (p : ℕ → Bool) (a k : ℕ) → ((i : ℕ) → a ≤ i → i < a + k → p i ≡ false) → count p (a + k) ≡ count p a
 count-none p a zero h = let e : a + zero ≡ a = omega arith in ap (count p) e
