@@ -1,0 +1,5 @@
+-- Laws, in the order in which they rest on one another.
+--   Reading    the pass that reads the windows
+pub mod Reading
+pub mod Searching
+pub mod Prepared
