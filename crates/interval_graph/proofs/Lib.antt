@@ -10,4 +10,10 @@ pub mod Walk
 pub mod ShortestChain
 pub mod PostOrder
 pub mod Rank
+pub mod Size
+pub mod Level
+pub mod Rule
+pub mod Bounds
+pub mod Reach
+pub mod Sameness
 pub mod Plan12

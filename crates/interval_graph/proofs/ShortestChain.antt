@@ -5,13 +5,13 @@
 use Prim.Native.Nat.{ℕ, zero, suc, _+_, _-_, _≤_, _<_, min, max}
 use mathlib.Core.Bool.{Bool, true, false, cond}
 use mathlib.Core.Path.{_≡_, refl, sym, ap, _∙_}
-use mathlib.Core.Logic.{_⊎_, inl, inr, ⊎-elim, _↔_}
+use mathlib.Core.Logic.{_⊎_, ⊎-elim, _↔_}
 use mathlib.Core.List.{List, [], _∷_, _++_, cons≢nil}
 use native.Mathlib.Omega.{arith}
 use lib.Dec.{leb, eqb}
 use lib.ListN.{length, getD}
-use borrow.Author.Tests.{eqb-true, eqb-false, eq-eqb, ne-eqb, le-leb, lt-leb}
-use Rattle.sequences.proofs.Tests.{lt-or-ge, truth}
+use borrow.Author.Tests.{eq-eqb, ne-eqb, le-leb, lt-leb}
+use Rattle.sequences.proofs.Tests.{lt-or-ge, equal-or-not}
 use Rattle.interval_graph.specs.Order.{IntervalOrder}
 use Rattle.interval_graph.specs.Chain.{firstEntry, lastEntry, handovers, isChain, leads, joins, Joined, LeastHandovers, Shortest, fromLater, EarliestShortest}
 use Rattle.interval_graph.specs.Tree.{root, component}
@@ -20,10 +20,6 @@ use Rattle.interval_graph.proofs.Component.{root-component, component-r
 use Rattle.interval_graph.proofs.Chains.{chain-not-empty, leads-chain, leads-first, leads-last, joins-cases, leads-joins, joins-swap, joins-not-empty, later-leads, handovers-later, shortest-least, least-handovers-unique, least-handovers-joined}
 use Rattle.interval_graph.proofs.Climb.{climb-le-position, chain-root}
 use Rattle.interval_graph.proofs.Walk.{Best, walk-leads, walk-best, alone-best}
-
--- Two numbers are equal or not.
-equal-or-not : (a b : ℕ) → (a ≡ b) ⊎ (a ≡ b → ⊥)
-equal-or-not a b = ⊎-elim (λ t. inl (eqb-true a b t)) (λ t. inr (eqb-false a b t)) (truth (eqb a b))
 
 -- the equations a reader expects, of any overlap test
 

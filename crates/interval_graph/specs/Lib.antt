@@ -5,10 +5,14 @@
 --   Tree       last, parent, root, depth, component
 --   Walk       the chain that is written between two windows
 --   PostOrder  children, post-order, rank
+--   Size       sizes and starts, from which ranks are computed
+--   Reach      the last window of a component, and how far apart its windows can be
 --   Numbers    the five numbers of a window, and what two windows' numbers say of their distance
 pub mod Chain
 pub mod Order
 pub mod Tree
 pub mod Walk
 pub mod PostOrder
+pub mod Size
+pub mod Reach
 pub mod Numbers

@@ -1,5 +1,5 @@
 -- Tests and cases: what every proof above splits on.
--- Vocabulary: cond-cases, lt-or-ge, truth (is a test true or false), and-*, or-*, not-*.
+-- Vocabulary: cond-cases, lt-or-ge, equal-or-not, truth (is a test true or false), and-*, or-*, not-*.
 -- Assumes nothing.
 use Prim.Native.Nat.{ℕ, zero, suc, _≤_, _<_}
 use mathlib.Core.Bool.{Bool, true, false, cond, not, _&&_, _||_, true≢false}
@@ -30,6 +30,10 @@ cond-cases P false f g = g refl
 pub lt-or-ge : (a b : ℕ) → (a < b) ⊎ (b ≤ a)
 lt-or-ge a b = ⊎-elim (λ t. inl (ltb-true a b t)) (λ t. inr (ltb-false a b t)) (truth (ltb a b))
 
+-- Two numbers are equal or not.
+pub equal-or-not : (a b : ℕ) → (a ≡ b) ⊎ (a ≡ b → ⊥)
+equal-or-not a b = ⊎-elim (λ t. inl (eqb-true a b t)) (λ t. inr (eqb-false a b t)) (truth (eqb a b))
+
 pub and-left : (s t : Bool) → (s && t) ≡ true → s ≡ true
 and-left true t p = refl
 and-left false t p = p
@@ -53,6 +57,19 @@ or-left false t p = absurd (true≢false (sym p))
 pub or-right : (s t : Bool) → t ≡ true → (s || t) ≡ true
 or-right true t p = refl
 or-right false t p = p
+
+-- A test beside one that is known.
+pub and-true-right : (s t : Bool) → t ≡ true → (s && t) ≡ s
+and-true-right true t p = p
+and-true-right false t p = refl
+
+pub and-false-right : (s t : Bool) → t ≡ false → (s && t) ≡ false
+and-false-right true t p = p
+and-false-right false t p = refl
+
+pub or-false-right : (s t : Bool) → t ≡ false → (s || t) ≡ s
+or-false-right true t p = refl
+or-false-right false t p = p
 
 -- A test that is true exactly if another is, is that other.
 pub iff-equal : (s t : Bool) → (s ≡ true → t ≡ true) → (t ≡ true → s ≡ true) → s ≡ t

@@ -1,0 +1,80 @@
+-- How great the numbers become: component, depth, rank and rank of the last are below the number of windows, and so is
+-- every least number of handovers.
+-- Vocabulary: component, depth, rank, lastRank, LeastHandovers.
+-- Assumes nothing.
+use Prim.Native.Nat.{ℕ, zero, suc, _+_, _-_, _≤_, _<_}
+use mathlib.Core.Bool.{Bool, true, false}
+use mathlib.Core.Path.{_≡_, refl, sym, ap, _∙_}
+use mathlib.Core.Logic.{_⊎_, ⊎-elim}
+use native.Mathlib.Omega.{arith}
+use lib.ListN.{length}
+use Rattle.sequences.specs.Search.{count}
+use Rattle.sequences.proofs.Tests.{lt-or-ge, equal-or-not}
+use Rattle.sequences.proofs.Search.{count-le}
+use Rattle.interval_graph.specs.Order.{IntervalOrder}
+use Rattle.interval_graph.specs.Chain.{handovers, LeastHandovers}
+use Rattle.interval_graph.specs.Tree.{last, parent, isRoot, ancestor, depth, root, component}
+use Rattle.interval_graph.specs.Walk.{climb, chainOf}
+use Rattle.interval_graph.specs.PostOrder.{postOrder, rank, lastRank}
+use Rattle.interval_graph.proofs.Last.{last-ge, last-below}
+use Rattle.interval_graph.proofs.Parent.{parent-last}
+use Rattle.interval_graph.proofs.Ancestor.{ancestor-suc, ancestor-below}
+use Rattle.interval_graph.proofs.Depth.{depth-le, root-le, ancestor-sum, ancestor-past}
+use Rattle.interval_graph.proofs.Chains.{handovers-alone, least-handovers-joined}
+use Rattle.interval_graph.proofs.Climb.{climb-before, climb-le-depth}
+use Rattle.interval_graph.proofs.ShortestChain.{chain-same, chain-symmetric, joined-root, least-is-chain}
+use Rattle.interval_graph.proofs.Rank.{rank-below, postOrder-length}
+use Rattle.interval_graph.proofs.Rule.{chain-handovers}
+
+module _ {n : ℕ} {overlaps : ℕ → ℕ → Bool} (ok : IntervalOrder n overlaps) where
+  -- The four numbers of a window are each below the number of windows.
+  pub component-lt : (v : ℕ) → v < n → component overlaps v < n
+  unfolding component
+  component-lt v h = omega (arith, count-le (isRoot overlaps) (root overlaps v), root-le overlaps v)
+
+  pub depth-lt : (v : ℕ) → v < n → depth overlaps v < n
+  depth-lt v h = omega (arith, depth-le overlaps v)
+
+  pub rank-lt : (v : ℕ) → v < n → rank n overlaps v < n
+  rank-lt v h = omega (arith, rank-below ok v h, postOrder-length ok (root overlaps v) (omega (arith, root-le overlaps v)))
+
+  pub lastRank-lt : (v : ℕ) → v < n → lastRank n overlaps v < n
+  unfolding lastRank
+  lastRank-lt v h = rank-lt (last n overlaps v) (last-below ok v h)
+
+  -- So of at most 2,048 windows they are at most 2,047.
+  pub numbers-small : (v : ℕ) → n ≤ 2048 → v < n → (component overlaps v ≤ 2047) × (depth overlaps v ≤ 2047) × (rank n overlaps v ≤ 2047) × (lastRank n overlaps v ≤ 2047)
+  numbers-small v b h = omega (arith, component-lt v h, depth-lt v h, rank-lt v h, lastRank-lt v h)
+
+  -- What bounds the steps up from the later of two windows, and one more, bounds a least number of handovers.
+  pub least-le : (a b k m : ℕ) → a < n → b < n → LeastHandovers n overlaps a b k → (a < b → climb n overlaps a b < m) → (b < a → climb n overlaps b a < m) → k ≤ m
+  least-le a b k m g l p s t =
+      let e : root overlaps a ≡ root overlaps b = joined-root ok a b (least-handovers-joined n overlaps a b k p) in
+      let c : k ≡ handovers (chainOf n overlaps a b) = least-is-chain ok a b k g l p in
+      ⊎-elim (λ h. omega (arith, s h, chain-handovers ok a b h l e))
+      (λ h. ⊎-elim (λ i. omega (arith, t i, chain-handovers ok b a i g (sym e), ap handovers (chain-symmetric n overlaps a b)))
+      (λ i. omega (arith, ap handovers (chain-same n overlaps a b (omega arith)), handovers-alone a)) (lt-or-ge b a))
+      (lt-or-ge a b)
+
+  -- From a window to an earlier one of its component one climbs less than its position.
+  climb-lt : (u v : ℕ) → u < v → v < n → root overlaps u ≡ root overlaps v → climb n overlaps u v < v
+  climb-lt u v h g e = by-depth (depth overlaps v) refl
+    where
+      by-depth : (d : ℕ) → depth overlaps v ≡ d → climb n overlaps u v < v
+      by-depth zero s = omega (arith, climb-le-depth ok u v e)
+      by-depth (suc d) s =
+          let x = ancestor overlaps d v in
+          let top : parent overlaps x ≡ root overlaps u = sym (ancestor-suc overlaps d v) ∙ (ancestor-past overlaps v (suc d) (omega arith) ∙ sym e) in
+          let covers : x ≤ last n overlaps (root overlaps u) = rw top at (parent-last ok x (ancestor-below overlaps d v g)) in
+          ⊎-elim (λ l. omega (arith, depth-le overlaps v))
+          (λ l. let behind : last n overlaps u < x = climb-before n overlaps u v d (omega arith) in
+          ⊎-elim (λ m. omega (arith, ancestor-sum overlaps d v (omega arith), last-ge ok u, climb-le-depth ok u v e))
+          (λ m. let r : root overlaps u ≡ u = omega (arith, root-le overlaps u) in absurd (omega (arith, ap (last n overlaps) r)))
+          (lt-or-ge (root overlaps u) u))
+          (lt-or-ge (climb n overlaps u v) (depth overlaps v))
+
+  -- A least number of handovers is below the number of windows.
+  pub least-lt : (a b k : ℕ) → a < n → b < n → LeastHandovers n overlaps a b k → k < n
+  least-lt a b k g l p =
+      let e : root overlaps a ≡ root overlaps b = joined-root ok a b (least-handovers-joined n overlaps a b k p) in
+      omega (arith, least-le a b k (n - 1) g l p (λ h. omega (arith, climb-lt a b h l e)) (λ h. omega (arith, climb-lt b a h g (sym e))))

@@ -1,0 +1,150 @@
+-- How far one climbs, told by levels. For u before v in one component, w the ancestor of v on u's level, D steps up:
+-- where u stands before w, it is D steps if w is at most the last of u, and else one more; where not, it is one less if
+-- the ancestor below w is at most the last of u, and else D. And ranks tell which.
+-- Vocabulary: climb, last, rank.
+-- Assumes nothing.
+use Prim.Native.Nat.{ℕ, zero, suc, _+_, _-_, _≤_, _<_}
+use mathlib.Core.Bool.{Bool, true, false, _&&_, _||_}
+use mathlib.Core.Path.{_≡_, refl, sym, ap, _∙_}
+use mathlib.Core.Logic.{_⊎_, inl, inr, ⊎-elim, _↔_}
+use native.Mathlib.Omega.{arith}
+use lib.Dec.{ltb, leb}
+use borrow.Author.Tests.{lt-ltb, le-ltb, le-leb, lt-leb}
+use Rattle.sequences.proofs.Tests.{lt-or-ge, and-true-right, and-false-right, or-false-right, or-right}
+use Rattle.interval_graph.specs.Order.{IntervalOrder}
+use Rattle.interval_graph.specs.Tree.{last, parent, ancestor, depth, root}
+use Rattle.interval_graph.specs.PostOrder.{rank}
+use Rattle.interval_graph.specs.Walk.{climb}
+use Rattle.interval_graph.proofs.Last.{last-ge, last-below}
+use Rattle.interval_graph.proofs.Parent.{parent-le, parent-least}
+use Rattle.interval_graph.proofs.Ancestor.{ancestor-zero, ancestor-suc, ancestor-le, ancestor-below}
+use Rattle.interval_graph.proofs.Depth.{root-le, depth-step, depth-ancestor, fixed-is-root, root-of-parent, root-of-ancestor, shallower-earlier, last-root, last-depth-ge, last-depth-le}
+use Rattle.interval_graph.proofs.Climb.{climb-le, climb-gt, climb-le-position}
+use Rattle.interval_graph.proofs.Rank.{rank-injective, rank-lt-iff}
+
+-- u before v in one component, v deeper by D.
+pub record Pair (n : ℕ) (overlaps : ℕ → ℕ → Bool) (u v D : ℕ) : Type 0 where
+  pub order : u < v
+  pub window : v < n
+  pub one-root : root overlaps u ≡ root overlaps v
+  pub levels : depth overlaps v ≡ depth overlaps u + D
+
+module _ {n : ℕ} {overlaps : ℕ → ℕ → Bool} (ok : IntervalOrder n overlaps) where
+  -- An ancestor of v that is no higher than u is on the level that the steps say, and in the component.
+  level-depth : (u v D i k : ℕ) → Pair n overlaps u v D → D ≡ i + k → depth overlaps (ancestor overlaps i v) ≡ depth overlaps u + k
+  level-depth u v D i k p e = omega (arith, depth-ancestor overlaps i v (omega (arith, p .levels)), p .levels)
+
+  level-root : (u v D i : ℕ) → Pair n overlaps u v D → root overlaps (ancestor overlaps i v) ≡ root overlaps u
+  level-root u v D i p = root-of-ancestor overlaps i v ∙ sym (p .one-root)
+
+  -- An ancestor of v two levels below u or more lies behind the last of u.
+  level-behind : (u v D i k : ℕ) → Pair n overlaps u v D → D ≡ i + k → depth overlaps (last n overlaps u) < depth overlaps u + k → last n overlaps u < ancestor overlaps i v
+  level-behind u v D i k p e h =
+      shallower-earlier ok (last n overlaps u) (ancestor overlaps i v) (last-below ok u (omega (arith, p .order, p .window)))
+      (last-root ok u (omega (arith, p .order, p .window)) ∙ sym (level-root u v D i p))
+      (omega (arith, level-depth u v D i k p e))
+
+  -- climb
+
+  pub climb-at-level : (u v D : ℕ) → Pair n overlaps u v D → u < ancestor overlaps D v → ancestor overlaps D v ≤ last n overlaps u → climb n overlaps u v ≡ D
+  climb-at-level u v zero p h g = omega (arith, climb-le n overlaps u v 0 g)
+  climb-at-level u v (suc D) p h g =
+      let x = ancestor overlaps D v in
+      ⊎-elim
+      (λ l. omega (arith, climb-le n overlaps u v (suc D) g, climb-gt n overlaps u v D (climb-le-position ok u v (p .one-root)) l))
+      (λ l. absurd (omega (arith, parent-least ok x u l, ancestor-suc overlaps D v)))
+      (lt-or-ge (last n overlaps u) x)
+
+  pub climb-past-level : (u v D : ℕ) → Pair n overlaps u v D → u < ancestor overlaps D v → last n overlaps u < ancestor overlaps D v → climb n overlaps u v ≡ suc D
+  climb-past-level u v D p h g =
+      let w = ancestor overlaps D v in
+      let above : parent overlaps w ≤ u = parent-before u v D p h in
+      omega (arith, climb-gt n overlaps u v D (climb-le-position ok u v (p .one-root)) g, climb-le n overlaps u v (suc D) (omega (arith, ancestor-suc overlaps D v, last-ge ok u)))
+    where
+      parent-before : (u v D : ℕ) → Pair n overlaps u v D → u < ancestor overlaps D v → parent overlaps (ancestor overlaps D v) ≤ u
+      parent-before u v D p h =
+          let w = ancestor overlaps D v in
+          ⊎-elim
+          (λ l. omega (arith, shallower-earlier ok (parent overlaps w) u (omega (arith, parent-le overlaps w, ancestor-le overlaps D v, p .window)) (root-of-parent overlaps w ∙ level-root u v D D p) (omega (arith, depth-step overlaps w l, level-depth u v D D 0 p (omega arith)))))
+          (λ l. absurd (omega (arith, fixed-is-root overlaps w (omega (arith, parent-le overlaps w)), level-root u v D D p, root-le overlaps u)))
+          (lt-or-ge (parent overlaps w) w)
+
+  pub climb-below-level : (u v D : ℕ) → Pair n overlaps u v (suc D) → ancestor overlaps D v ≤ last n overlaps u → climb n overlaps u v ≡ D
+  climb-below-level u v zero p g = omega (arith, climb-le n overlaps u v 0 g)
+  climb-below-level u v (suc D) p g =
+      omega (arith, climb-le n overlaps u v (suc D) g, climb-gt n overlaps u v D (climb-le-position ok u v (p .one-root)) (level-behind u v (suc (suc D)) D 2 p (omega arith) (omega (arith, last-depth-le ok u (omega (arith, p .order, p .window))))))
+
+  pub climb-to-level : (u v D : ℕ) → Pair n overlaps u v (suc D) → ancestor overlaps (suc D) v ≤ u → last n overlaps u < ancestor overlaps D v → climb n overlaps u v ≡ suc D
+  climb-to-level u v D p h g =
+      omega (arith, climb-gt n overlaps u v D (climb-le-position ok u v (p .one-root)) g, climb-le n overlaps u v (suc D) (omega (arith, last-ge ok u)))
+
+  -- rank of the last
+
+  -- The last of u is on u's level, and then has no smaller rank, or one level deeper, and then has a smaller.
+  pub last-level : (u : ℕ) → u < n → (depth overlaps (last n overlaps u) ≡ depth overlaps u) ⊎ (depth overlaps (last n overlaps u) ≡ suc (depth overlaps u))
+  last-level u h =
+      ⊎-elim (λ l. inr (omega (arith, last-depth-le ok u h))) (λ l. inl (omega (arith, last-depth-ge ok u h)))
+      (lt-or-ge (depth overlaps u) (depth overlaps (last n overlaps u)))
+
+  pub last-rank-level : (u : ℕ) → u < n → depth overlaps (last n overlaps u) ≡ depth overlaps u → rank n overlaps u ≤ rank n overlaps (last n overlaps u)
+  last-rank-level u h e =
+      let z = last n overlaps u in
+      ⊎-elim
+      (λ l. absurd (omega (arith, rank-lt-iff ok z u 0 (last-below ok u h) h (last-root ok u h) (omega arith) .0 l, ancestor-zero overlaps u, last-ge ok u)))
+      (λ l. l) (lt-or-ge (rank n overlaps z) (rank n overlaps u))
+
+  pub last-rank-deeper : (u : ℕ) → u < n → depth overlaps (last n overlaps u) ≡ suc (depth overlaps u) → rank n overlaps (last n overlaps u) < rank n overlaps u
+  last-rank-deeper u h e =
+      let z = last n overlaps u in
+      ⊎-elim (λ l. l)
+      (λ l. absurd (⊎-elim
+      (λ m. omega (arith, rank-lt-iff ok u z 1 h (last-below ok u h) (sym (last-root ok u h)) (omega arith) .0 m, ancestor-suc overlaps 0 z, ap (parent overlaps) (ancestor-zero overlaps z), parent-least ok z u (omega arith)))
+      (λ m. let s : u ≡ z = rank-injective ok u z h (last-below ok u h) (sym (last-root ok u h)) (omega arith) in omega (arith, ap (depth overlaps) s))
+      (lt-or-ge (rank n overlaps u) (rank n overlaps z))))
+      (lt-or-ge (rank n overlaps z) (rank n overlaps u))
+
+  -- ranks tell
+
+  -- Of windows z and v in one component, v deeper by k, v has no greater rank exactly if its k-th ancestor is not
+  -- behind z.
+  rank-leb : (z v k : ℕ) → z < n → v < n → root overlaps z ≡ root overlaps v → depth overlaps v ≡ depth overlaps z + k → leb (rank n overlaps v) (rank n overlaps z) ≡ leb (ancestor overlaps k v) z
+  rank-leb z v k h g e d =
+      let less = rank-lt-iff ok z v k h g e d in
+      ⊎-elim
+      (λ l. lt-leb (rank n overlaps v) (rank n overlaps z) (less .1 l) ∙ sym (lt-leb (ancestor overlaps k v) z l))
+      (λ l. le-leb (rank n overlaps v) (rank n overlaps z) (⊎-elim (λ m. absurd (omega (arith, less .0 m))) (λ m. m) (lt-or-ge (rank n overlaps z) (rank n overlaps v)))
+      ∙ sym (le-leb (ancestor overlaps k v) z l))
+      (lt-or-ge z (ancestor overlaps k v))
+
+  -- Whether w is at most the last of u.
+  pub ranks-at-level : (u v D : ℕ) → Pair n overlaps u v D → (leb (rank n overlaps v) (rank n overlaps (last n overlaps u)) || ltb (rank n overlaps (last n overlaps u)) (rank n overlaps u)) ≡ leb (ancestor overlaps D v) (last n overlaps u)
+  ranks-at-level u v D p =
+      let z = last n overlaps u in
+      let h : u < n = omega (arith, p .order, p .window) in
+      let s = leb (rank n overlaps v) (rank n overlaps z) in
+      let t = ltb (rank n overlaps z) (rank n overlaps u) in
+      ⊎-elim
+      (λ e. or-false-right s t (le-ltb (rank n overlaps z) (rank n overlaps u) (last-rank-level u h e))
+      ∙ rank-leb z v D (last-below ok u h) (p .window) (last-root ok u h ∙ p .one-root) (omega (arith, p .levels)))
+      (λ e. or-right s t (lt-ltb (rank n overlaps z) (rank n overlaps u) (last-rank-deeper u h e))
+      ∙ sym (le-leb (ancestor overlaps D v) z (omega (arith, level-before u v D p h e))))
+      (last-level u h)
+    where
+      level-before : (u v D : ℕ) → Pair n overlaps u v D → u < n → depth overlaps (last n overlaps u) ≡ suc (depth overlaps u) → ancestor overlaps D v < last n overlaps u
+      level-before u v D p h e =
+          shallower-earlier ok (ancestor overlaps D v) (last n overlaps u) (ancestor-below overlaps D v (p .window))
+          (level-root u v D D p ∙ sym (last-root ok u h)) (omega (arith, level-depth u v D D 0 p (omega arith)))
+
+  -- Whether the ancestor below w is at most the last of u.
+  pub ranks-below-level : (u v D : ℕ) → Pair n overlaps u v (suc D) → (leb (rank n overlaps v) (rank n overlaps (last n overlaps u)) && ltb (rank n overlaps (last n overlaps u)) (rank n overlaps u)) ≡ leb (ancestor overlaps D v) (last n overlaps u)
+  ranks-below-level u v D p =
+      let z = last n overlaps u in
+      let h : u < n = omega (arith, p .order, p .window) in
+      let s = leb (rank n overlaps v) (rank n overlaps z) in
+      let t = ltb (rank n overlaps z) (rank n overlaps u) in
+      ⊎-elim
+      (λ e. and-false-right s t (le-ltb (rank n overlaps z) (rank n overlaps u) (last-rank-level u h e))
+      ∙ sym (lt-leb (ancestor overlaps D v) z (level-behind u v (suc D) D 1 p (omega arith) (omega arith))))
+      (λ e. and-true-right s t (lt-ltb (rank n overlaps z) (rank n overlaps u) (last-rank-deeper u h e))
+      ∙ rank-leb z v D (last-below ok u h) (p .window) (last-root ok u h ∙ p .one-root) (omega (arith, p .levels)))
+      (last-level u h)

@@ -1,0 +1,55 @@
+-- Reach: no two windows of a component are more handovers apart than the depth of its last window plus 1.
+-- Vocabulary: lastInComponent, reach, LeastHandovers.
+-- Assumes nothing.
+use Prim.Native.Nat.{ℕ, zero, suc, _+_, _-_, _≤_, _<_}
+use mathlib.Core.Bool.{Bool, true, false}
+use mathlib.Core.Path.{_≡_, refl, sym, ap, _∙_}
+use mathlib.Core.Logic.{_⊎_, ⊎-elim}
+use native.Mathlib.Omega.{arith}
+use lib.Dec.{eqb}
+use borrow.Author.Tests.{eqb-true, eq-eqb}
+use Rattle.sequences.specs.Search.{greatest}
+use Rattle.sequences.proofs.Search.{greatest-ge, greatest-cases}
+use Rattle.interval_graph.specs.Order.{IntervalOrder}
+use Rattle.interval_graph.specs.Chain.{LeastHandovers}
+use Rattle.interval_graph.specs.Tree.{depth, root, component}
+use Rattle.interval_graph.specs.Walk.{climb}
+use Rattle.interval_graph.specs.Reach.{lastInComponent, reach}
+use Rattle.interval_graph.proofs.Depth.{depth-monotone}
+use Rattle.interval_graph.proofs.Component.{component-root}
+use Rattle.interval_graph.proofs.Climb.{climb-le-depth}
+use Rattle.interval_graph.proofs.Bounds.{least-le}
+
+module _ (n : ℕ) (overlaps : ℕ → ℕ → Bool) where
+  -- The last window of v's component is a window of it, and no window of it stands behind.
+  pub lastInComponent-window : (v : ℕ) → v < n → lastInComponent n overlaps v < n
+  unfolding lastInComponent
+  lastInComponent-window v h =
+      ⊎-elim (λ c. c .0) (λ c. omega arith) (greatest-cases (λ w. eqb (component overlaps w) (component overlaps v)) n v)
+
+  pub lastInComponent-component : (v : ℕ) → component overlaps (lastInComponent n overlaps v) ≡ component overlaps v
+  unfolding lastInComponent
+  lastInComponent-component v =
+      ⊎-elim (λ c. eqb-true _ (component overlaps v) (c .1)) (λ c. ap (component overlaps) (c .0))
+      (greatest-cases (λ w. eqb (component overlaps w) (component overlaps v)) n v)
+
+  pub lastInComponent-greatest : (v w : ℕ) → w < n → component overlaps w ≡ component overlaps v → w ≤ lastInComponent n overlaps v
+  unfolding lastInComponent
+  lastInComponent-greatest v w h e =
+      greatest-ge (λ w. eqb (component overlaps w) (component overlaps v)) n v w h (eq-eqb (component overlaps w) (component overlaps v) e)
+
+module _ {n : ℕ} {overlaps : ℕ → ℕ → Bool} (ok : IntervalOrder n overlaps) where
+  -- No window of v's component is as deep as its reach.
+  depth-lt-reach : (v w : ℕ) → v < n → w < n → component overlaps w ≡ component overlaps v → depth overlaps w < reach n overlaps v
+  unfolding reach
+  depth-lt-reach v w h g e =
+      let z = lastInComponent n overlaps v in
+      omega (arith, depth-monotone ok w z (lastInComponent-greatest n overlaps v w g e) (lastInComponent-window n overlaps v h) (component-root overlaps w z (e ∙ sym (lastInComponent-component n overlaps v))))
+
+  -- No two windows of v's component are more handovers apart than its reach.
+  pub reach-bound : (v a b k : ℕ) → v < n → a < n → b < n → component overlaps a ≡ component overlaps v → component overlaps b ≡ component overlaps v → LeastHandovers n overlaps a b k → k ≤ reach n overlaps v
+  reach-bound v a b k h g l p q c =
+      let e : root overlaps a ≡ root overlaps b = component-root overlaps a b (p ∙ sym q) in
+      least-le ok a b k (reach n overlaps v) g l c
+      (λ s. omega (arith, climb-le-depth ok a b e, depth-lt-reach v b h l q))
+      (λ s. omega (arith, climb-le-depth ok b a (sym e), depth-lt-reach v a h g p))
