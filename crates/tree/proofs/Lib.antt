@@ -3,3 +3,4 @@
 pub mod Reading
 pub mod Searching
 pub mod Prepared
+pub mod Leveled

@@ -23,7 +23,7 @@ use Rattle.plan.specs.Overlap.{overlaps}
 use Rattle.plan.proofs.Accepted.{accepted-sound, offsets-sorted}
 use Rattle.plan.proofs.Overlap.{overlaps-end, interval-order}
 use Rattle.tree.specs.Tables.{offsetAt, endAt, parentOf, lastOf}
-use Rattle.tree.specs.Searches.{Prepared, FirstPast, Sorted, LastBefore}
+use Rattle.tree.specs.Passes.{Prepared, FirstPast, Sorted, LastBefore}
 
 -- No window before `finger` overlaps one from v on.
 abbrev Behind : List ℕ → ℕ → ℕ → ℕ → Type 0

@@ -7,7 +7,7 @@ use mathlib.Core.List.{List}
 use native.Mathlib.Omega.{arith}
 use lib.ListN.{getD}
 use Rattle.sequences.proofs.Tests.{lt-or-ge}
-use Rattle.tree.specs.Searches.{FirstPast, Sorted, LastBefore}
+use Rattle.tree.specs.Passes.{FirstPast, Sorted, LastBefore}
 
 -- Before `at` no end lies past the offset.
 pub record NonePast (ends : List ℕ) (offset from to at : ℕ) : Type 0 where

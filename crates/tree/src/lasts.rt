@@ -4,7 +4,7 @@ ghost use Prim.Native.Nat.{_≤_, _<_};
 ghost use lib.ListN.{length};
 ghost use Rattle.sequences.specs.Table.{table, overwritten};
 ghost use Rattle.tree.specs.Tables.{lastOf};
-ghost use Rattle.tree.specs.Searches.{Prepared, Sorted, LastBefore};
+ghost use Rattle.tree.specs.Passes.{Prepared, Sorted, LastBefore};
 
 // The last position from `from` on, below `to`, whose offset lies before the end; `from` itself where there is none.
 fn last_before(offsets: &[u32], end: u32, from: usize, to: usize) -> usize

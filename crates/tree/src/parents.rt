@@ -4,7 +4,7 @@ ghost use Prim.Native.Nat.{_≤_};
 ghost use lib.ListN.{length};
 ghost use Rattle.sequences.specs.Table.{table, overwritten};
 ghost use Rattle.tree.specs.Tables.{parentOf};
-ghost use Rattle.tree.specs.Searches.{Prepared, FirstPast};
+ghost use Rattle.tree.specs.Passes.{Prepared, FirstPast};
 
 // The first position from `from` on whose end lies past the offset, or `to` where there is none before it.
 fn first_past(ends: &[u32], offset: u32, from: usize, to: usize) -> usize

@@ -1,6 +1,6 @@
 -- What the passes are handed and what the searches inside them find. Nothing here has to be believed: no public promise
 -- cites it.
--- Vocabulary: Prepared, FirstPast, Sorted, LastBefore.
+-- Vocabulary: Prepared, Parented, FirstPast, Sorted, LastBefore.
 use Prim.Native.Nat.{ℕ, _≤_, _<_}
 use mathlib.Core.Path.{_≡_}
 use mathlib.Core.List.{List}
@@ -8,7 +8,7 @@ use lib.ListN.{getD}
 use Rattle.sequences.specs.Table.{Holds}
 use Rattle.plan.specs.File.{windowCount}
 use Rattle.plan.specs.Validation.{AcceptedPlan}
-use Rattle.tree.specs.Tables.{offsetAt, endAt}
+use Rattle.tree.specs.Tables.{offsetAt, endAt, parentOf}
 
 -- An accepted plan's file, how many windows it has, and its offsets and ends as tables.
 pub record Prepared (file : List ℕ) (windows : ℕ) (offsets ends : List ℕ) : Type 0 where
@@ -16,6 +16,12 @@ pub record Prepared (file : List ℕ) (windows : ℕ) (offsets ends : List ℕ) 
   pub counted : windows ≡ windowCount file
   pub offsets-held : Holds offsets (offsetAt file) windows
   pub ends-held : Holds ends (endAt file) windows
+
+-- An accepted plan's file, how many windows it has, and its parent table.
+pub record Parented (file : List ℕ) (windows : ℕ) (parents : List ℕ) : Type 0 where
+  pub accepted : AcceptedPlan file
+  pub counted : windows ≡ windowCount file
+  pub parents-held : Holds parents (parentOf file) windows
 
 -- r is the first position from `from` on whose end lies past the offset, or `to`.
 pub record FirstPast (ends : List ℕ) (offset from to r : ℕ) : Type 0 where
