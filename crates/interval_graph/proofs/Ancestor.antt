@@ -3,7 +3,7 @@
 -- Assumes nothing.
 use Prim.Native.Nat.{ℕ, zero, suc, _+_, _-_, _≤_, _<_}
 use mathlib.Core.Bool.{Bool}
-use mathlib.Core.Path.{_≡_, refl, sym, ap, _∙_}
+use mathlib.Core.Path.{_≡_, refl, ap}
 use native.Mathlib.Omega.{arith}
 use Rattle.interval_graph.specs.Order.{IntervalOrder}
 use Rattle.interval_graph.specs.Tree.{parent, ancestor}
@@ -11,10 +11,12 @@ use Rattle.interval_graph.proofs.Parent.{parent-le, parent-monotone}
 
 -- Steps, of any overlap test.
 module _ (overlaps : ℕ → ℕ → Bool) where
+  -- No step up leads to the window itself.
   pub ancestor-zero : (v : ℕ) → ancestor overlaps 0 v ≡ v
   unfolding ancestor
   ancestor-zero v = refl
 
+  -- One step more leads to the parent.
   pub ancestor-suc : (i v : ℕ) → ancestor overlaps (suc i) v ≡ parent overlaps (ancestor overlaps i v)
   unfolding ancestor
   ancestor-suc i v = refl

@@ -2,11 +2,11 @@
 -- up to a position at most the earlier window's last are fewer than the handovers of any chain.
 -- Vocabulary: climb, ancestor, last.
 -- Assumes nothing.
-use Prim.Native.Nat.{ℕ, zero, suc, _+_, _-_, _≤_, _<_}
-use mathlib.Core.Bool.{Bool, true, false}
+use Prim.Native.Nat.{ℕ, zero, suc, _≤_, _<_}
+use mathlib.Core.Bool.{Bool, true}
 use mathlib.Core.Path.{_≡_, refl, sym, ap, _∙_}
-use mathlib.Core.Logic.{_⊎_, ⊎-elim}
-use mathlib.Core.List.{List, [], _∷_, _++_}
+use mathlib.Core.Logic.{⊎-elim}
+use mathlib.Core.List.{List, [], _∷_}
 use native.Mathlib.Omega.{arith}
 use lib.Dec.{leb}
 use lib.ListN.{length, getD}
@@ -18,7 +18,7 @@ use Rattle.interval_graph.specs.Chain.{lastEntry, isChain}
 use Rattle.interval_graph.specs.Tree.{last, parent, ancestor, depth, root}
 use Rattle.interval_graph.specs.Walk.{climb}
 use Rattle.interval_graph.proofs.Last.{last-ge, neighbour-le-last}
-use Rattle.interval_graph.proofs.Parent.{parent-le, parent-least}
+use Rattle.interval_graph.proofs.Parent.{parent-least}
 use Rattle.interval_graph.proofs.Ancestor.{ancestor-zero, ancestor-parent, ancestor-antitone}
 use Rattle.interval_graph.proofs.Depth.{root-le, depth-le, ancestor-past, overlap-root}
 use Rattle.interval_graph.proofs.Chains.{chain-head, chain-overlap, chain-tail}
@@ -58,6 +58,7 @@ module _ {n : ℕ} {overlaps : ℕ → ℕ → Bool} (ok : IntervalOrder n overl
       climb-le n overlaps u v (depth overlaps v)
       (omega (arith, ancestor-past overlaps v (depth overlaps v) (omega arith), root-le overlaps u, last-ge ok u))
 
+  -- In one component there are such steps.
   pub climb-le-position : (u v : ℕ) → root overlaps u ≡ root overlaps v → climb n overlaps u v ≤ v
   climb-le-position u v e = omega (arith, climb-le-depth u v e, depth-le overlaps v)
 

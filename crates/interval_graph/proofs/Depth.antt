@@ -2,42 +2,44 @@
 -- window is at least as deep (level order).
 -- Vocabulary: isRoot, depth, root.
 -- Assumes nothing.
-use Prim.Native.Nat.{ℕ, zero, suc, _+_, _-_, _≤_, _<_, max}
+use Prim.Native.Nat.{ℕ, zero, suc, _+_, _-_, _≤_, _<_}
 use mathlib.Core.Bool.{Bool, true, false}
 use mathlib.Core.Path.{_≡_, refl, sym, ap, _∙_}
-use mathlib.Core.Logic.{_⊎_, ⊎-elim, _↔_}
+use mathlib.Core.Logic.{⊎-elim}
 use native.Mathlib.Omega.{arith}
-use lib.Dec.{eqb}
 use borrow.Author.Tests.{eqb-true, eqb-false, eq-eqb, ne-eqb}
-use Rattle.sequences.proofs.Tests.{lt-or-ge, truth}
-use Rattle.sequences.proofs.Search.{least-le, least-holds, least-before, least-minimal, least-unique}
+use Rattle.sequences.proofs.Tests.{lt-or-ge}
+use Rattle.sequences.proofs.Search.{least-le, least-holds, least-before, least-minimal}
 use Rattle.interval_graph.specs.Order.{IntervalOrder}
 use Rattle.interval_graph.specs.Tree.{last, parent, isRoot, ancestor, depth, root}
 use Rattle.interval_graph.proofs.Last.{last-ge, last-below, overlap-last, neighbour-le-last}
-use Rattle.interval_graph.proofs.Parent.{parent-le, parent-least, parent-monotone}
-use Rattle.interval_graph.proofs.Ancestor.{ancestor-zero, ancestor-parent, ancestor-add, ancestor-le, ancestor-antitone, ancestor-below, ancestor-monotone}
+use Rattle.interval_graph.proofs.Parent.{parent-le, parent-least}
+use Rattle.interval_graph.proofs.Ancestor.{ancestor-zero, ancestor-parent, ancestor-add, ancestor-le, ancestor-antitone, ancestor-monotone}
 
 module _ (overlaps : ℕ → ℕ → Bool) where
-  -- A root is its own parent, and what is its own parent is a root.
+  -- A root is its own parent.
   pub root-fixed : (v : ℕ) → isRoot overlaps v ≡ true → parent overlaps v ≡ v
   unfolding isRoot
   root-fixed v t = eqb-true (parent overlaps v) v t
 
+  -- What is its own parent is a root.
   pub fixed-root : (v : ℕ) → parent overlaps v ≡ v → isRoot overlaps v ≡ true
   unfolding isRoot
   fixed-root v e = eq-eqb (parent overlaps v) v e
 
+  -- What has its parent before it is no root.
   pub below-not-root : (v : ℕ) → parent overlaps v < v → isRoot overlaps v ≡ false
   unfolding isRoot
   below-not-root v h = ne-eqb (parent overlaps v) v (λ e. omega arith)
 
+  -- What is no root has its parent before it.
   pub not-root-below : (v : ℕ) → isRoot overlaps v ≡ false → parent overlaps v < v
   unfolding isRoot
   not-root-below v t =
       ⊎-elim (λ h. h) (λ h. absurd (eqb-false (parent overlaps v) v t (omega (arith, parent-le overlaps v))))
       (lt-or-ge (parent overlaps v) v)
 
-  -- Each step below the depth lowers the position.
+  -- Steps that meet no root lower the position by as many, at least.
   pub ancestor-falls : (i v : ℕ) → ((j : ℕ) → j < i → isRoot overlaps (ancestor overlaps j v) ≡ false) → ancestor overlaps i v + i ≤ v
   unfolding ancestor
   ancestor-falls zero v h = omega arith
@@ -102,15 +104,17 @@ module _ (overlaps : ℕ → ℕ → Bool) where
       ⊎-elim (λ h. ancestor-antitone overlaps i (depth overlaps v) v (omega arith))
       (λ h. omega (arith, ancestor-past v i h)) (lt-or-ge i (depth overlaps v))
 
+  -- The root is at most the window.
   pub root-le : (v : ℕ) → root overlaps v ≤ v
   unfolding root
   root-le v = ancestor-le overlaps (depth overlaps v) v
 
-  -- A window that is its own parent has depth 0 and is its own root.
+  -- A window that is its own parent has depth 0.
   pub fixed-depth : (v : ℕ) → parent overlaps v ≡ v → depth overlaps v ≡ 0
   unfolding ancestor
   fixed-depth v e = omega (arith, depth-minimal v 0 (fixed-root v e))
 
+  -- A window that is its own parent is its own root.
   pub fixed-is-root : (v : ℕ) → parent overlaps v ≡ v → root overlaps v ≡ v
   unfolding ancestor
   fixed-is-root v e = sym (root-unique v 0 (fixed-root v e))
@@ -173,15 +177,17 @@ module _ {n : ℕ} {overlaps : ℕ → ℕ → Bool} (ok : IntervalOrder n overl
   root-between u v h l g =
       omega (arith, root-of-parent overlaps v, root-monotone (parent overlaps v) u h (omega arith), root-monotone u v l g)
 
-  -- The last of a window is in its component, and as deep or one deeper.
+  -- The last of a window is in its component.
   pub last-root : (u : ℕ) → u < n → root overlaps (last n overlaps u) ≡ root overlaps u
   last-root u g =
       sym (root-between u (last n overlaps u) (parent-least ok (last n overlaps u) u (omega arith)) (last-ge ok u) (last-below ok u g))
 
+  -- The last of a window is at least as deep.
   pub last-depth-ge : (u : ℕ) → u < n → depth overlaps u ≤ depth overlaps (last n overlaps u)
   last-depth-ge u g =
       depth-monotone u (last n overlaps u) (last-ge ok u) (last-below ok u g) (sym (last-root u g))
 
+  -- The last of a window is at most one deeper.
   pub last-depth-le : (u : ℕ) → u < n → depth overlaps (last n overlaps u) ≤ suc (depth overlaps u)
   last-depth-le u g =
       let z = last n overlaps u in

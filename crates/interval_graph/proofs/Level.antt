@@ -3,10 +3,10 @@
 -- the ancestor below w is at most the last of u, and else D. And ranks tell which.
 -- Vocabulary: climb, last, rank.
 -- Assumes nothing.
-use Prim.Native.Nat.{ℕ, zero, suc, _+_, _-_, _≤_, _<_}
-use mathlib.Core.Bool.{Bool, true, false, _&&_, _||_}
-use mathlib.Core.Path.{_≡_, refl, sym, ap, _∙_}
-use mathlib.Core.Logic.{_⊎_, inl, inr, ⊎-elim, _↔_}
+use Prim.Native.Nat.{ℕ, zero, suc, _+_, _≤_, _<_}
+use mathlib.Core.Bool.{Bool, _&&_, _||_}
+use mathlib.Core.Path.{_≡_, sym, ap, _∙_}
+use mathlib.Core.Logic.{_⊎_, inl, inr, ⊎-elim}
 use native.Mathlib.Omega.{arith}
 use lib.Dec.{ltb, leb}
 use borrow.Author.Tests.{lt-ltb, le-ltb, le-leb, lt-leb}
@@ -30,14 +30,14 @@ pub record Pair (n : ℕ) (overlaps : ℕ → ℕ → Bool) (u v D : ℕ) : Type
   pub levels : depth overlaps v ≡ depth overlaps u + D
 
 module _ {n : ℕ} {overlaps : ℕ → ℕ → Bool} (ok : IntervalOrder n overlaps) where
-  -- An ancestor of v that is no higher than u is on the level that the steps say, and in the component.
+  -- An ancestor of v that is no higher than u is as much deeper than u as steps are left of the D, and has u's root.
   level-depth : (u v D i k : ℕ) → Pair n overlaps u v D → D ≡ i + k → depth overlaps (ancestor overlaps i v) ≡ depth overlaps u + k
   level-depth u v D i k p e = omega (arith, depth-ancestor overlaps i v (omega (arith, p .levels)), p .levels)
 
   level-root : (u v D i : ℕ) → Pair n overlaps u v D → root overlaps (ancestor overlaps i v) ≡ root overlaps u
   level-root u v D i p = root-of-ancestor overlaps i v ∙ sym (p .one-root)
 
-  -- An ancestor of v two levels below u or more lies behind the last of u.
+  -- An ancestor of v that is deeper than the last of u stands behind it.
   level-behind : (u v D i k : ℕ) → Pair n overlaps u v D → D ≡ i + k → depth overlaps (last n overlaps u) < depth overlaps u + k → last n overlaps u < ancestor overlaps i v
   level-behind u v D i k p e h =
       shallower-earlier ok (last n overlaps u) (ancestor overlaps i v) (last-below ok u (omega (arith, p .order, p .window)))
@@ -46,6 +46,7 @@ module _ {n : ℕ} {overlaps : ℕ → ℕ → Bool} (ok : IntervalOrder n overl
 
   -- climb
 
+  -- Where u stands before w, and w is at most the last of u, one climbs D steps.
   pub climb-at-level : (u v D : ℕ) → Pair n overlaps u v D → u < ancestor overlaps D v → ancestor overlaps D v ≤ last n overlaps u → climb n overlaps u v ≡ D
   climb-at-level u v zero p h g = omega (arith, climb-le n overlaps u v 0 g)
   climb-at-level u v (suc D) p h g =
@@ -55,6 +56,7 @@ module _ {n : ℕ} {overlaps : ℕ → ℕ → Bool} (ok : IntervalOrder n overl
       (λ l. absurd (omega (arith, parent-least ok x u l, ancestor-suc overlaps D v)))
       (lt-or-ge (last n overlaps u) x)
 
+  -- Where u stands before w, and w is behind the last of u, one climbs D + 1 steps.
   pub climb-past-level : (u v D : ℕ) → Pair n overlaps u v D → u < ancestor overlaps D v → last n overlaps u < ancestor overlaps D v → climb n overlaps u v ≡ suc D
   climb-past-level u v D p h g =
       let w = ancestor overlaps D v in
@@ -69,23 +71,26 @@ module _ {n : ℕ} {overlaps : ℕ → ℕ → Bool} (ok : IntervalOrder n overl
           (λ l. absurd (omega (arith, fixed-is-root overlaps w (omega (arith, parent-le overlaps w)), level-root u v D D p, root-le overlaps u)))
           (lt-or-ge (parent overlaps w) w)
 
+  -- Where the ancestor below w is at most the last of u, one climbs one step less than to w.
   pub climb-below-level : (u v D : ℕ) → Pair n overlaps u v (suc D) → ancestor overlaps D v ≤ last n overlaps u → climb n overlaps u v ≡ D
   climb-below-level u v zero p g = omega (arith, climb-le n overlaps u v 0 g)
   climb-below-level u v (suc D) p g =
       omega (arith, climb-le n overlaps u v (suc D) g, climb-gt n overlaps u v D (climb-le-position ok u v (p .one-root)) (level-behind u v (suc (suc D)) D 2 p (omega arith) (omega (arith, last-depth-le ok u (omega (arith, p .order, p .window))))))
 
+  -- Where w is not behind u, and the ancestor below w is behind the last of u, one climbs to w.
   pub climb-to-level : (u v D : ℕ) → Pair n overlaps u v (suc D) → ancestor overlaps (suc D) v ≤ u → last n overlaps u < ancestor overlaps D v → climb n overlaps u v ≡ suc D
   climb-to-level u v D p h g =
       omega (arith, climb-gt n overlaps u v D (climb-le-position ok u v (p .one-root)) g, climb-le n overlaps u v (suc D) (omega (arith, last-ge ok u)))
 
   -- rank of the last
 
-  -- The last of u is on u's level, and then has no smaller rank, or one level deeper, and then has a smaller.
+  -- The last of u is on u's level or one level deeper.
   pub last-level : (u : ℕ) → u < n → (depth overlaps (last n overlaps u) ≡ depth overlaps u) ⊎ (depth overlaps (last n overlaps u) ≡ suc (depth overlaps u))
   last-level u h =
       ⊎-elim (λ l. inr (omega (arith, last-depth-le ok u h))) (λ l. inl (omega (arith, last-depth-ge ok u h)))
       (lt-or-ge (depth overlaps u) (depth overlaps (last n overlaps u)))
 
+  -- A last on the window's own level has no smaller rank than the window.
   pub last-rank-level : (u : ℕ) → u < n → depth overlaps (last n overlaps u) ≡ depth overlaps u → rank n overlaps u ≤ rank n overlaps (last n overlaps u)
   last-rank-level u h e =
       let z = last n overlaps u in
@@ -93,6 +98,7 @@ module _ {n : ℕ} {overlaps : ℕ → ℕ → Bool} (ok : IntervalOrder n overl
       (λ l. absurd (omega (arith, rank-lt-iff ok z u 0 (last-below ok u h) h (last-root ok u h) (omega arith) .0 l, ancestor-zero overlaps u, last-ge ok u)))
       (λ l. l) (lt-or-ge (rank n overlaps z) (rank n overlaps u))
 
+  -- A last one level deeper has a smaller rank than the window.
   pub last-rank-deeper : (u : ℕ) → u < n → depth overlaps (last n overlaps u) ≡ suc (depth overlaps u) → rank n overlaps (last n overlaps u) < rank n overlaps u
   last-rank-deeper u h e =
       let z = last n overlaps u in

@@ -12,6 +12,8 @@ use Rattle.sequences.specs.Lists.{indexOf}
 use Rattle.sequences.specs.Table.{table}
 use Rattle.interval_graph.specs.Chain.{handovers, isChain, leads, joins, firstEntry, lastEntry}
 use Rattle.interval_graph.specs.Tree.{last, parent, isRoot, ancestor, depth, root, component}
+use Rattle.interval_graph.specs.Walk.{climb, walk, chainOf}
+use Rattle.interval_graph.specs.Reach.{lastInComponent, reach}
 use Rattle.interval_graph.specs.PostOrder.{children, postOrderTo, postOrder, rank, lastRank}
 use Rattle.interval_graph.specs.Numbers.{Outcome, numbersOf, apart, no-chain, equal, comesFirst, between, outcome}
 
@@ -90,3 +92,14 @@ pub plan-12-handovers : handovers (5 ∷ 4 ∷ 2 ∷ 0 ∷ []) ∷ handovers (5 
     ≡ 3 ∷ 3 ∷ 2 ∷ 0 ∷ []
 unfolding definitions
 plan-12-handovers = refl
+
+-- The chains that are written are the paper's; between windows of two components nothing is written.
+pub plan-12-written : chainOf 7 overlaps 0 5 ∷ chainOf 7 overlaps 3 5 ∷ chainOf 7 overlaps 3 1 ∷ chainOf 7 overlaps 6 6 ∷ chainOf 7 overlaps 5 6 ∷ []
+    ≡ (5 ∷ 4 ∷ 2 ∷ 0 ∷ []) ∷ (5 ∷ 4 ∷ 2 ∷ 3 ∷ []) ∷ (3 ∷ 0 ∷ 1 ∷ []) ∷ (6 ∷ []) ∷ [] ∷ []
+unfolding definitions climb walk chainOf
+plan-12-written = refl
+
+-- "Reach in plan 12: 4 for position 0, 1 for position 6."
+pub plan-12-reach : reach 7 overlaps 0 ∷ reach 7 overlaps 6 ∷ [] ≡ 4 ∷ 1 ∷ []
+unfolding definitions lastInComponent reach
+plan-12-reach = refl

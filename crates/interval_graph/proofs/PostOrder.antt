@@ -2,25 +2,24 @@
 -- windows under it, itself included, and those only.
 -- Vocabulary: children, postOrder, Under (a window under another, so many steps down).
 -- Assumes nothing.
-use Prim.Native.Nat.{ℕ, zero, suc, _+_, _-_, _≤_, _<_}
-use mathlib.Core.Bool.{Bool, true, false, _&&_}
+use Prim.Native.Nat.{ℕ, zero, suc, _+_, _≤_, _<_}
+use mathlib.Core.Bool.{Bool, _&&_}
 use mathlib.Core.Path.{_≡_, refl, sym, ap, _∙_}
-use mathlib.Core.Logic.{_⊎_, ⊎-elim, _↔_}
+use mathlib.Core.Logic.{⊎-elim, _↔_}
 use mathlib.Core.List.{List, [], _∷_, _++_, flatMap, List·Memᴰ, List·Memᴰ·head, Memᴰ·append-left, Memᴰ·append-right, List·Memᴰ·append-cases, List·Memᴰ·eq-of-singleton}
 use native.Mathlib.Omega.{arith}
 use lib.Dec.{ltb, eqb}
 use borrow.Author.Tests.{ltb-true, eqb-true, lt-ltb, eq-eqb}
-use Rattle.sequences.specs.Search.{passing}
 use Rattle.sequences.proofs.Tests.{lt-or-ge, and-left, and-right, and-intro}
 use Rattle.sequences.proofs.Passing.{passing-sound, passing-complete}
 use Rattle.sequences.proofs.Pairwise.{Pairwise, passing-rises}
 use Rattle.sequences.proofs.FlatMap.{flatMap-sound, flatMap-complete, flatMap-cong}
-use Rattle.interval_graph.specs.Order.{IntervalOrder}
-use Rattle.interval_graph.specs.Tree.{parent, ancestor, depth, root}
+use Rattle.interval_graph.specs.Tree.{parent, ancestor, depth, root, component}
 use Rattle.interval_graph.specs.PostOrder.{children, postOrderTo, postOrder}
 use Rattle.interval_graph.proofs.Parent.{parent-le}
 use Rattle.interval_graph.proofs.Ancestor.{ancestor-zero, ancestor-suc, ancestor-le}
-use Rattle.interval_graph.proofs.Depth.{depth-step, root-parent, fixed-is-root, ancestor-past, root-of-ancestor}
+use Rattle.interval_graph.proofs.Depth.{depth-step, fixed-is-root, ancestor-past, root-of-ancestor}
+use Rattle.interval_graph.proofs.Component.{root-component, component-root}
 
 -- c is a child of v.
 pub record Child (n : ℕ) (overlaps : ℕ → ℕ → Bool) (v c : ℕ) : Type 0 where
@@ -36,7 +35,7 @@ pub record Under (n : ℕ) (overlaps : ℕ → ℕ → Bool) (v x : ℕ) : Type 
   pub window : x < n
 
 module _ (n : ℕ) (overlaps : ℕ → ℕ → Bool) where
-  -- The list of children holds the children, and those only.
+  -- The list of children holds only children.
   pub children-sound : (v c : ℕ) → List·Memᴰ c (children n overlaps v) → Child n overlaps v c
   unfolding children
   children-sound v c m =
@@ -47,6 +46,7 @@ module _ (n : ℕ) (overlaps : ℕ → ℕ → Bool) where
         parent-is = eqb-true (parent overlaps c) v (and-right (ltb v c) (eqb (parent overlaps c) v) (h .2));
       }
 
+  -- The list of children holds every child.
   pub children-complete : (v c : ℕ) → Child n overlaps v c → List·Memᴰ c (children n overlaps v)
   unfolding children
   children-complete v c h =
@@ -98,9 +98,11 @@ module _ (n : ℕ) (overlaps : ℕ → ℕ → Bool) where
 
   -- steps down
 
+  -- A window is under itself.
   pub under-self : (v : ℕ) → v < n → Under n overlaps v v
   under-self v h = record { steps = 0; up = ancestor-zero overlaps v; deeper = omega arith; window = h }
 
+  -- What is under a child of v is under v.
   pub under-child : (v c x : ℕ) → Child n overlaps v c → Under n overlaps c x → Under n overlaps v x
   under-child v c x k u =
       record {
@@ -110,10 +112,11 @@ module _ (n : ℕ) (overlaps : ℕ → ℕ → Bool) where
         window = u .window;
       }
 
-  -- A window under v is not before v, and has v's root.
+  -- A window under v is not before v.
   pub under-ge : (v x : ℕ) → Under n overlaps v x → v ≤ x
   under-ge v x u = omega (arith, u .up, ancestor-le overlaps (u .steps) x)
 
+  -- A window under v has v's root.
   pub under-root : (v x : ℕ) → Under n overlaps v x → root overlaps x ≡ root overlaps v
   under-root v x u = sym (root-of-ancestor overlaps (u .steps) x) ∙ ap (root overlaps) (u .up)
 
@@ -148,9 +151,10 @@ module _ (n : ℕ) (overlaps : ℕ → ℕ → Bool) where
       (lt-or-ge (parent overlaps c) c)
 
   -- Of a root, the list holds the windows of its component, and those only.
-  pub component-list : (r x : ℕ) → r < n → parent overlaps r ≡ r → List·Memᴰ x (postOrder n overlaps r) ↔ ((x < n) × (root overlaps x ≡ r))
-  component-list r x h e = (
-    λ m. let u = postOrder-sound r x h m in
-        (u .window, under-root r x u ∙ fixed-is-root overlaps r e),
-    λ q. postOrder-complete (depth overlaps x) x r (q .0) (ancestor-past overlaps x (depth overlaps x) (omega arith) ∙ q .1),
-  )
+  pub component-list : (r x : ℕ) → r < n → parent overlaps r ≡ r → List·Memᴰ x (postOrder n overlaps r) ↔ ((x < n) × (component overlaps x ≡ component overlaps r))
+  component-list r x h e =
+      let own : root overlaps r ≡ r = fixed-is-root overlaps r e in (
+        λ m. let u = postOrder-sound r x h m in
+            (u .window, root-component overlaps x r (under-root r x u)),
+        λ q. postOrder-complete (depth overlaps x) x r (q .0) (ancestor-past overlaps x (depth overlaps x) (omega arith) ∙ (component-root overlaps x r (q .1) ∙ own)),
+      )

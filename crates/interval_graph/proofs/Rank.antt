@@ -2,11 +2,11 @@
 -- ancestor on x's level. To show it, that is made an order of its own, `Before`; post-order is pairwise in it.
 -- Vocabulary: rank, Before.
 -- Assumes nothing.
-use Prim.Native.Nat.{ℕ, zero, suc, _+_, _-_, _≤_, _<_}
-use mathlib.Core.Bool.{Bool, true, false}
-use mathlib.Core.Path.{_≡_, refl, sym, ap, _∙_}
-use mathlib.Core.Logic.{_⊎_, inl, inr, ⊎-elim, _↔_}
-use mathlib.Core.List.{List, [], _∷_, _++_, flatMap, List·Memᴰ, List·Memᴰ·eq-of-singleton, List·Memᴰ·not-nil}
+use Prim.Native.Nat.{ℕ, suc, _+_, _-_, _≤_, _<_}
+use mathlib.Core.Bool.{Bool}
+use mathlib.Core.Path.{_≡_, refl, sym, _∙_}
+use mathlib.Core.Logic.{⊎-elim, _↔_}
+use mathlib.Core.List.{[], _∷_, flatMap, List·Memᴰ, List·Memᴰ·eq-of-singleton, List·Memᴰ·not-nil}
 use native.Mathlib.Omega.{arith}
 use lib.ListN.{length, getD}
 use Rattle.sequences.specs.Lists.{indexOf}
@@ -15,9 +15,9 @@ use Rattle.sequences.proofs.Lists.{index-below, index-at}
 use Rattle.sequences.proofs.FlatMap.{flatMap-sound}
 use Rattle.sequences.proofs.Pairwise.{Pairwise, pairwise-append, pairwise-flatMap, pairwise-index, pairwise-once, pairwise-length}
 use Rattle.interval_graph.specs.Order.{IntervalOrder}
-use Rattle.interval_graph.specs.Tree.{parent, ancestor, depth, root, component}
+use Rattle.interval_graph.specs.Tree.{ancestor, depth, root, component}
 use Rattle.interval_graph.specs.PostOrder.{children, postOrder, rank}
-use Rattle.interval_graph.proofs.Ancestor.{ancestor-zero, ancestor-add, ancestor-le, ancestor-below, ancestor-monotone}
+use Rattle.interval_graph.proofs.Ancestor.{ancestor-zero, ancestor-add, ancestor-below, ancestor-monotone}
 use Rattle.interval_graph.proofs.Depth.{root-le, ancestor-past}
 use Rattle.interval_graph.proofs.Component.{component-root}
 use Rattle.interval_graph.proofs.PostOrder.{Child, Under, children-sound, children-rise, child-depth, by-children, postOrder-children, under-child, postOrder-sound, postOrder-complete}
@@ -41,6 +41,7 @@ module _ (overlaps : ℕ → ℕ → Bool) where
       (lt-or-ge (depth overlaps y) (depth overlaps x)))
       (lt-or-ge (depth overlaps x) (depth overlaps y))
 
+  -- No window comes before itself.
   pub before-irreflexive : (x : ℕ) → Before overlaps x x → ⊥
   before-irreflexive x p = before-asymmetric x x p p
 
@@ -97,7 +98,7 @@ module _ {n : ℕ} {overlaps : ℕ → ℕ → Bool} (ok : IntervalOrder n overl
           (pairwise-flatMap (Before overlaps) (λ x y. x < y) (postOrder n overlaps) (children n overlaps v) (children-rise n overlaps v)
           (λ c m. below c (children-sound n overlaps v c m)) (between-children v)) (λ y m. absurd (List·Memᴰ·not-nil m), tt) (children-first v))
 
-  -- Of a root, the list holds each of its windows once.
+  -- The list of a window holds each of its windows once: the entry at i has index i.
   pub postOrder-once : (v i : ℕ) → v < n → i < length (postOrder n overlaps v) → indexOf (getD (postOrder n overlaps v) i 0) (postOrder n overlaps v) ≡ i
   postOrder-once v i h b =
       pairwise-once (Before overlaps) (before-irreflexive overlaps) (postOrder n overlaps v) i (postOrder-pairwise v h) b
@@ -108,15 +109,17 @@ module _ {n : ℕ} {overlaps : ℕ → ℕ → Bool} (ok : IntervalOrder n overl
       pairwise-length (Before overlaps) (before-irreflexive overlaps) (postOrder n overlaps v) n (postOrder-pairwise v h)
       (λ x m. postOrder-sound n overlaps v x h m .window)
 
-  -- A window is in the list of its root, at its rank.
+  -- A window is in the list of its root.
   pub rank-member : (x : ℕ) → x < n → List·Memᴰ x (postOrder n overlaps (root overlaps x))
   rank-member x h =
       postOrder-complete n overlaps (depth overlaps x) x (root overlaps x) h (ancestor-past overlaps x (depth overlaps x) (omega arith))
 
+  -- The rank of a window is an index in the list of its root.
   pub rank-below : (x : ℕ) → x < n → rank n overlaps x < length (postOrder n overlaps (root overlaps x))
   unfolding rank
   rank-below x h = index-below x (postOrder n overlaps (root overlaps x)) (rank-member x h)
 
+  -- In the list of its root, the entry at its rank is the window.
   pub rank-entry : (x : ℕ) → x < n → getD (postOrder n overlaps (root overlaps x)) (rank n overlaps x) 0 ≡ x
   unfolding rank
   rank-entry x h = index-at x (postOrder n overlaps (root overlaps x)) (rank-below x h)
@@ -126,7 +129,7 @@ module _ {n : ℕ} {overlaps : ℕ → ℕ → Bool} (ok : IntervalOrder n overl
   rank-injective x y h g e s =
       sym (rank-entry x h) ∙ ((rw (e, s) refl) ∙ rank-entry y g)
 
-  -- The smaller rank comes before, and what comes before has the smaller rank.
+  -- What has the smaller rank comes before.
   pub rank-before : (x y : ℕ) → x < n → y < n → root overlaps x ≡ root overlaps y → rank n overlaps x < rank n overlaps y → Before overlaps x y
   unfolding rank
   rank-before x y h g e l =
@@ -134,6 +137,7 @@ module _ {n : ℕ} {overlaps : ℕ → ℕ → Bool} (ok : IntervalOrder n overl
       pairwise-index (Before overlaps) (postOrder n overlaps r) x y (postOrder-pairwise r (omega (arith, root-le overlaps y)))
       (rw e at (rank-member x h)) (rank-member y g) (rw e at l)
 
+  -- What comes before has the smaller rank.
   pub before-rank : (x y : ℕ) → x < n → y < n → root overlaps x ≡ root overlaps y → Before overlaps x y → rank n overlaps x < rank n overlaps y
   before-rank x y h g e p =
       ⊎-elim (λ l. l)

@@ -1,19 +1,17 @@
 -- Reach: no two windows of a component are more handovers apart than the depth of its last window plus 1.
 -- Vocabulary: lastInComponent, reach, LeastHandovers.
 -- Assumes nothing.
-use Prim.Native.Nat.{ℕ, zero, suc, _+_, _-_, _≤_, _<_}
-use mathlib.Core.Bool.{Bool, true, false}
-use mathlib.Core.Path.{_≡_, refl, sym, ap, _∙_}
-use mathlib.Core.Logic.{_⊎_, ⊎-elim}
+use Prim.Native.Nat.{ℕ, _≤_, _<_}
+use mathlib.Core.Bool.{Bool}
+use mathlib.Core.Path.{_≡_, sym, ap, _∙_}
+use mathlib.Core.Logic.{⊎-elim}
 use native.Mathlib.Omega.{arith}
 use lib.Dec.{eqb}
 use borrow.Author.Tests.{eqb-true, eq-eqb}
-use Rattle.sequences.specs.Search.{greatest}
 use Rattle.sequences.proofs.Search.{greatest-ge, greatest-cases}
 use Rattle.interval_graph.specs.Order.{IntervalOrder}
 use Rattle.interval_graph.specs.Chain.{LeastHandovers}
 use Rattle.interval_graph.specs.Tree.{depth, root, component}
-use Rattle.interval_graph.specs.Walk.{climb}
 use Rattle.interval_graph.specs.Reach.{lastInComponent, reach}
 use Rattle.interval_graph.proofs.Depth.{depth-monotone}
 use Rattle.interval_graph.proofs.Component.{component-root}
@@ -21,18 +19,20 @@ use Rattle.interval_graph.proofs.Climb.{climb-le-depth}
 use Rattle.interval_graph.proofs.Bounds.{least-le}
 
 module _ (n : ℕ) (overlaps : ℕ → ℕ → Bool) where
-  -- The last window of v's component is a window of it, and no window of it stands behind.
+  -- The last window of v's component is a window.
   pub lastInComponent-window : (v : ℕ) → v < n → lastInComponent n overlaps v < n
   unfolding lastInComponent
   lastInComponent-window v h =
       ⊎-elim (λ c. c .0) (λ c. omega arith) (greatest-cases (λ w. eqb (component overlaps w) (component overlaps v)) n v)
 
+  -- It is in v's component.
   pub lastInComponent-component : (v : ℕ) → component overlaps (lastInComponent n overlaps v) ≡ component overlaps v
   unfolding lastInComponent
   lastInComponent-component v =
       ⊎-elim (λ c. eqb-true _ (component overlaps v) (c .1)) (λ c. ap (component overlaps) (c .0))
       (greatest-cases (λ w. eqb (component overlaps w) (component overlaps v)) n v)
 
+  -- No window of v's component stands behind it.
   pub lastInComponent-greatest : (v w : ℕ) → w < n → component overlaps w ≡ component overlaps v → w ≤ lastInComponent n overlaps v
   unfolding lastInComponent
   lastInComponent-greatest v w h e =

@@ -5,7 +5,7 @@
 use Prim.Native.Nat.{ℕ, zero, suc, _+_, _-_, _≤_, _<_, min, max}
 use mathlib.Core.Bool.{Bool, true, false, cond, _&&_, _||_}
 use mathlib.Core.Path.{_≡_, refl, sym, ap, _∙_}
-use mathlib.Core.Logic.{_⊎_, inl, inr, ⊎-elim, _↔_}
+use mathlib.Core.Logic.{⊎-elim, _↔_}
 use native.Mathlib.Omega.{arith}
 use lib.Dec.{ltb, leb, eqb}
 use borrow.Author.Tests.{ltb-true, ltb-false, leb-true, leb-false, eqb-true, lt-ltb, le-ltb, eq-eqb, ne-eqb}
@@ -15,7 +15,7 @@ use Rattle.interval_graph.specs.Chain.{handovers, Joined, LeastHandovers
 use Rattle.interval_graph.specs.Tree.{last, ancestor, depth, root, component}
 use Rattle.interval_graph.specs.Walk.{climb, walk, chainOf}
 use Rattle.interval_graph.specs.PostOrder.{rank, lastRank}
-use Rattle.interval_graph.specs.Numbers.{Numbers, numbersOf, Outcome, apart, no-chain, equal, comesFirst, between, outcome}
+use Rattle.interval_graph.specs.Numbers.{Numbers, numbersOf, apart, no-chain, equal, comesFirst, between, outcome}
 use Rattle.interval_graph.proofs.Ancestor.{ancestor-zero}
 use Rattle.interval_graph.proofs.Depth.{depth-monotone}
 use Rattle.interval_graph.proofs.Component.{root-component, component-root}
@@ -26,7 +26,7 @@ use Rattle.interval_graph.proofs.ShortestChain.{chain-same, chain-walk,
 use Rattle.interval_graph.proofs.Rank.{rank-injective, rank-lt-iff}
 use Rattle.interval_graph.proofs.Level.{Pair, climb-at-level, climb-past-level, climb-below-level, climb-to-level, ranks-at-level, ranks-below-level}
 
--- Numbers that are equal agree in each of the five, so in component and rank, and any numbers are equal to themselves.
+-- Equal numbers agree in the component and in the rank.
 equal-component : (x y : Numbers) → equal x y ≡ true → x .component ≡ y .component
 unfolding equal
 equal-component x y t =
@@ -44,6 +44,7 @@ equal-rank x y t =
     (and-left (eqb (x .rank) (y .rank)) (eqb (x .last) (y .last))
     (and-right (eqb (x .depth) (y .depth)) r (and-right (eqb (x .component) (y .component)) d (and-right (eqb (x .plan) (y .plan)) c t))))
 
+-- Numbers are equal to themselves.
 eqb-self : (k : ℕ) → eqb k k ≡ true
 eqb-self k = eq-eqb k k refl
 
@@ -52,8 +53,7 @@ unfolding equal
 equal-self x = rw (eqb-self (x .plan), eqb-self (x .component), eqb-self (x .depth), eqb-self (x .rank), eqb-self (x .last))
 
 module _ {n : ℕ} {overlaps : ℕ → ℕ → Bool} (ok : IntervalOrder n overlaps) where
-  -- The count for u before v in one component, v deeper by D: where the ancestor of v on u's level is not behind u, and
-  -- in all cases.
+  -- The count for u before v in one component, v deeper by D, where the ancestor of v on u's level is not behind u.
   between-second : (u v D : ℕ) → Pair n overlaps u v D → ancestor overlaps D v ≤ u → cond (leb (rank n overlaps v) (rank n overlaps (last n overlaps u)) && ltb (rank n overlaps (last n overlaps u)) (rank n overlaps u)) D (D + 1) ≡ suc (climb n overlaps u v)
   between-second u v zero p h = absurd (omega (arith, ancestor-zero overlaps v, p .order))
   between-second u v (suc D) p h =
@@ -63,6 +63,7 @@ module _ {n : ℕ} {overlaps : ℕ → ℕ → Bool} (ok : IntervalOrder n overl
       (λ s. omega (arith, climb-below-level ok u v D p (leb-true x z (sym (ranks-below-level ok u v D p) ∙ s))))
       (λ s. omega (arith, climb-to-level ok u v D p h (leb-false x z (sym (ranks-below-level ok u v D p) ∙ s))))
 
+  -- The count for u before v in one component, v deeper by D.
   between-pair : (u v p q D : ℕ) → Pair n overlaps u v D → between (numbersOf n overlaps p u) (numbersOf n overlaps q v) ≡ suc (climb n overlaps u v)
   unfolding between numbersOf lastRank
   between-pair u v p q D r =
@@ -86,7 +87,7 @@ module _ {n : ℕ} {overlaps : ℕ → ℕ → Bool} (ok : IntervalOrder n overl
       between-pair u v p q (depth overlaps v - depth overlaps u)
       (record { order = h; window = g; one-root = e; levels = omega (arith, depth-monotone ok u v (omega arith) g e) })
 
-  -- The numbers tell which window is the earlier.
+  -- The numbers tell which window is the earlier: it comes first.
   pub first-earlier : (u v p q : ℕ) → u < v → v < n → root overlaps u ≡ root overlaps v → comesFirst (numbersOf n overlaps p u) (numbersOf n overlaps q v) ≡ true
   unfolding comesFirst numbersOf
   first-earlier u v p q h g e =
@@ -100,6 +101,7 @@ module _ {n : ℕ} {overlaps : ℕ → ℕ → Bool} (ok : IntervalOrder n overl
       (lt-ltb (rank n overlaps u) (rank n overlaps v) (rank-lt-iff ok u v 0 (omega arith) g e (omega arith) .1 (omega (arith, ancestor-zero overlaps v))))))
       (lt-or-ge (depth overlaps u) (depth overlaps v))
 
+  -- The later window does not come first.
   pub first-not-later : (u v p q : ℕ) → u < v → v < n → root overlaps u ≡ root overlaps v → comesFirst (numbersOf n overlaps p v) (numbersOf n overlaps q u) ≡ false
   unfolding comesFirst numbersOf
   first-not-later u v p q h g e =
@@ -168,6 +170,15 @@ module _ {n : ℕ} {overlaps : ℕ → ℕ → Bool} (ok : IntervalOrder n overl
       let t : equal (numbersOf n overlaps p a) (numbersOf n overlaps p b) ≡ false = not-equal a b p g l (λ s. d (ap (root overlaps) s)) in
       let s : eqb (component overlaps a) (component overlaps b) ≡ false = ne-eqb _ _ (λ e. d (component-root overlaps a b e)) in
       rw (t, s)
+
+  -- The outcome is the same in either order of naming.
+  pub outcome-symmetric : (a b p : ℕ) → a < n → b < n → outcome (numbersOf n overlaps p a) (numbersOf n overlaps p b) ≡ outcome (numbersOf n overlaps p b) (numbersOf n overlaps p a)
+  outcome-symmetric a b p g l =
+      ⊎-elim
+      (λ e. outcome-chain a b p g l e
+      ∙ (ap (λ c. apart (handovers c)) (chain-symmetric n overlaps a b) ∙ sym (outcome-chain b a p l g (sym e))))
+      (λ d. outcome-none a b p g l d ∙ sym (outcome-none b a p l g (λ e. d (sym e))))
+      (equal-or-not (root overlaps a) (root overlaps b))
 
   -- The outcome is a count exactly if that is the least number of handovers.
   pub outcome-apart : (a b p k : ℕ) → a < n → b < n → (outcome (numbersOf n overlaps p a) (numbersOf n overlaps p b) ≡ apart k) ↔ LeastHandovers n overlaps a b k

@@ -2,27 +2,26 @@
 -- same component, depth, rank and rank of the last.
 -- Vocabulary: SameOverlaps, SameNumbers.
 -- Assumes nothing.
-use Prim.Native.Nat.{ℕ, zero, suc, _+_, _-_, _≤_, _<_}
-use mathlib.Core.Bool.{Bool, true, false, _&&_}
+use Prim.Native.Nat.{ℕ, zero, suc, _≤_, _<_}
+use mathlib.Core.Bool.{Bool, true, _&&_}
 use mathlib.Core.Path.{_≡_, refl, sym, ap, _∙_}
-use mathlib.Core.Logic.{_⊎_, ⊎-elim, _↔_}
+use mathlib.Core.Logic.{⊎-elim, _↔_}
 use mathlib.Core.List.{List, [], _∷_, _++_, flatMap}
 use native.Mathlib.Omega.{arith}
 use lib.Dec.{ltb, eqb}
-use lib.ListN.{length}
-use Rattle.sequences.specs.Search.{count, passing}
+use Rattle.sequences.specs.Search.{count}
 use Rattle.sequences.specs.Lists.{indexOf}
 use Rattle.sequences.proofs.Tests.{iff-equal}
 use Rattle.sequences.proofs.Search.{least-cong, greatest-cong, count-cong}
 use Rattle.sequences.proofs.Passing.{passing-cong}
 use Rattle.sequences.proofs.FlatMap.{flatMap-cong}
 use Rattle.interval_graph.specs.Order.{IntervalOrder}
-use Rattle.interval_graph.specs.Chain.{firstEntry, lastEntry, handovers, leads, joins, LeastHandovers}
+use Rattle.interval_graph.specs.Chain.{firstEntry, lastEntry, handovers, leads, LeastHandovers}
 use Rattle.interval_graph.specs.Tree.{last, parent, isRoot, ancestor, depth, root, component}
 use Rattle.interval_graph.specs.PostOrder.{children, postOrderTo, postOrder, rank, lastRank}
-use Rattle.interval_graph.specs.Numbers.{numbersOf, outcome, apart}
+use Rattle.interval_graph.specs.Numbers.{numbersOf, outcome}
 use Rattle.interval_graph.proofs.Last.{overlap-distinct, last-below}
-use Rattle.interval_graph.proofs.Ancestor.{ancestor-le, ancestor-below}
+use Rattle.interval_graph.proofs.Ancestor.{ancestor-below}
 use Rattle.interval_graph.proofs.Depth.{root-le}
 use Rattle.interval_graph.proofs.Chains.{chain-not-empty, chain-overlap, chain-alone, chain-cons, leads-chain, leads-first, leads-last, leads-intro, leads-joins, joins-cases}
 use Rattle.interval_graph.proofs.Rule.{outcome-apart}
@@ -40,11 +39,13 @@ pub record SameNumbers (n : ℕ) (first second : ℕ → ℕ → Bool) : Type 0 
 
 -- Tree, post-order and numbers depend on the test between windows only.
 module _ {n : ℕ} {first second : ℕ → ℕ → Bool} (same : SameOverlaps n first second) where
+  -- The last depends on the test between windows only.
   pub last-same : (u : ℕ) → u < n → last n first u ≡ last n second u
   unfolding last
   last-same u h =
       greatest-cong (λ w. ltb u w && first u w) (λ w. ltb u w && second u w) n u (λ k g. ap (λ (t : Bool). ltb u k && t) (same u k h g))
 
+  -- The parent depends on the test between windows only.
   pub parent-same : (v : ℕ) → v < n → parent first v ≡ parent second v
   unfolding parent
   parent-same v h = least-cong (λ u. first u v) (λ u. second u v) v (λ k g. same k v (omega arith) h)
@@ -59,6 +60,7 @@ module _ {n : ℕ} {first second : ℕ → ℕ → Bool} (same : SameOverlaps n 
   ancestor-same (suc i) v h =
       ap (parent first) (ancestor-same i v h) ∙ parent-same (ancestor second i v) (ancestor-below second i v h)
 
+  -- The depth depends on the test between windows only.
   pub depth-same : (v : ℕ) → v < n → depth first v ≡ depth second v
   unfolding depth
   depth-same v h =
@@ -69,6 +71,7 @@ module _ {n : ℕ} {first second : ℕ → ℕ → Bool} (same : SameOverlaps n 
   unfolding root
   root-same v h = ap (λ (d : ℕ). ancestor first d v) (depth-same v h) ∙ ancestor-same (depth second v) v h
 
+  -- The component depends on the test between windows only.
   pub component-same : (v : ℕ) → v < n → component first v ≡ component second v
   unfolding component
   component-same v h =
@@ -89,6 +92,7 @@ module _ {n : ℕ} {first second : ℕ → ℕ → Bool} (same : SameOverlaps n 
       ∙ ap (λ (l : List ℕ). l ++ (v ∷ []))
       (flatMap-cong (postOrderTo n first levels) (postOrderTo n second levels) (children n second v) (λ c m. postOrder-same levels c))
 
+  -- The rank depends on the test between windows only.
   pub rank-same : (v : ℕ) → v < n → rank n first v ≡ rank n second v
   unfolding rank postOrder
   rank-same v h =

@@ -2,18 +2,17 @@
 -- window at each step; it is empty exactly if none joins them, which is so exactly if their components differ.
 -- Vocabulary: chainOf, Joined, EarliestShortest, LeastHandovers, component.
 -- Assumes nothing.
-use Prim.Native.Nat.{ℕ, zero, suc, _+_, _-_, _≤_, _<_, min, max}
-use mathlib.Core.Bool.{Bool, true, false, cond}
-use mathlib.Core.Path.{_≡_, refl, sym, ap, _∙_}
-use mathlib.Core.Logic.{_⊎_, ⊎-elim, _↔_}
-use mathlib.Core.List.{List, [], _∷_, _++_, cons≢nil}
+use Prim.Native.Nat.{ℕ, _≤_, _<_, min, max}
+use mathlib.Core.Bool.{Bool, true, false}
+use mathlib.Core.Path.{_≡_, sym, ap, _∙_}
+use mathlib.Core.Logic.{⊎-elim, _↔_}
+use mathlib.Core.List.{List, [], _∷_}
 use native.Mathlib.Omega.{arith}
 use lib.Dec.{leb, eqb}
-use lib.ListN.{length, getD}
 use borrow.Author.Tests.{eq-eqb, ne-eqb, le-leb, lt-leb}
 use Rattle.sequences.proofs.Tests.{lt-or-ge, equal-or-not}
 use Rattle.interval_graph.specs.Order.{IntervalOrder}
-use Rattle.interval_graph.specs.Chain.{firstEntry, lastEntry, handovers, isChain, leads, joins, Joined, LeastHandovers, Shortest, fromLater, EarliestShortest}
+use Rattle.interval_graph.specs.Chain.{firstEntry, lastEntry, handovers, leads, joins, Joined, LeastHandovers, fromLater, EarliestShortest}
 use Rattle.interval_graph.specs.Tree.{root, component}
 use Rattle.interval_graph.specs.Walk.{climb, walk, chainOf}
 use Rattle.interval_graph.proofs.Component.{root-component, component-root}
@@ -29,7 +28,7 @@ module _ (n : ℕ) (overlaps : ℕ → ℕ → Bool) where
   unfolding chainOf
   chain-same a b e = let t : eqb a b ≡ true = eq-eqb a b e in rw t
 
-  -- Between two, the walk where it arrives, and nothing where it does not.
+  -- Between two windows the walk, where it arrives.
   pub chain-walk : (a b : ℕ) → (a ≡ b → ⊥) → climb n overlaps (min a b) (max a b) ≤ max a b → chainOf n overlaps a b ≡ walk n overlaps (min a b) (max a b)
   unfolding chainOf
   chain-walk a b d h =
@@ -37,6 +36,7 @@ module _ (n : ℕ) (overlaps : ℕ → ℕ → Bool) where
       let s : leb (climb n overlaps (min a b) (max a b)) (max a b) ≡ true = le-leb _ _ h in
       rw (t, s)
 
+  -- Nothing where the walk does not arrive.
   pub chain-none : (a b : ℕ) → (a ≡ b → ⊥) → max a b < climb n overlaps (min a b) (max a b) → chainOf n overlaps a b ≡ []
   unfolding chainOf
   chain-none a b d h =
@@ -77,7 +77,7 @@ joins-of-later n overlaps a b l t =
     (lt-or-ge a b)
 
 module _ {n : ℕ} {overlaps : ℕ → ℕ → Bool} (ok : IntervalOrder n overlaps) where
-  -- A chain that leads from one window to another, and so one that joins them, shows that they have one root.
+  -- Windows that a chain leads from and to have one root.
   pub leads-root : (a b : ℕ) (l : List ℕ) → leads n overlaps a b l ≡ true → root overlaps a ≡ root overlaps b
   unfolding firstEntry
   leads-root a b [] t = absurd (chain-not-empty n overlaps (leads-chain n overlaps a b [] t))
@@ -85,6 +85,7 @@ module _ {n : ℕ} {overlaps : ℕ → ℕ → Bool} (ok : IntervalOrder n overl
       ap (root overlaps) (sym (leads-first n overlaps a b (x ∷ l) t))
       ∙ (chain-root ok l x (leads-chain n overlaps a b (x ∷ l) t) ∙ ap (root overlaps) (leads-last n overlaps a b (x ∷ l) t))
 
+  -- Windows that some chain joins have one root.
   pub joined-root : (a b : ℕ) → Joined n overlaps a b → root overlaps a ≡ root overlaps b
   joined-root a b j =
       ⊎-elim (λ t. leads-root a b (j .0) t) (λ t. sym (leads-root b a (j .0) t)) (joins-cases n overlaps a b (j .0) (j .1))
@@ -114,14 +115,16 @@ module _ {n : ℕ} {overlaps : ℕ → ℕ → Bool} (ok : IntervalOrder n overl
       apart : (a b : ℕ) → (a ≡ b → ⊥) → min a b < max a b
       apart a b d = ⊎-elim (λ h. h) (λ h. absurd (d (omega arith))) (lt-or-ge (min a b) (max a b))
 
-  -- Some chain joins two windows exactly if they have one root, which is so exactly if they have one component.
+  -- Windows of one root are joined by the chain between them.
   pub root-joined : (a b : ℕ) → a < n → b < n → root overlaps a ≡ root overlaps b → Joined n overlaps a b
   root-joined a b g l e =
       (chainOf n overlaps a b, joins-of-later n overlaps a b (chainOf n overlaps a b) (chain-best a b g l e .leading))
 
+  -- Some chain joins two windows exactly if they have one root.
   pub joined-iff-root : (a b : ℕ) → a < n → b < n → Joined n overlaps a b ↔ (root overlaps a ≡ root overlaps b)
   joined-iff-root a b g l = (joined-root a b, root-joined a b g l)
 
+  -- Some chain joins two windows exactly if they have one component.
   pub joined-iff-component : (a b : ℕ) → a < n → b < n → Joined n overlaps a b ↔ (component overlaps a ≡ component overlaps b)
   joined-iff-component a b g l =
       (λ j. root-component overlaps a b (joined-root a b j), λ e. root-joined a b g l (component-root overlaps a b e))
@@ -156,20 +159,22 @@ module _ {n : ℕ} {overlaps : ℕ → ℕ → Bool} (ok : IntervalOrder n overl
   least-is-chain a b k g l p =
       least-handovers-unique n overlaps a b k (handovers (chainOf n overlaps a b)) p (chain-least a b g l (least-handovers-joined n overlaps a b k p))
 
-  -- It begins at the later window and ends at the earlier.
+  -- It begins at the later window.
   pub chain-first : (a b : ℕ) → a < n → b < n → Joined n overlaps a b → firstEntry (chainOf n overlaps a b) ≡ max a b
   chain-first a b g l j =
       leads-first n overlaps (max a b) (min a b) (chainOf n overlaps a b) (chain-best a b g l (joined-root a b j) .leading)
 
+  -- It ends at the earlier window.
   pub chain-last : (a b : ℕ) → a < n → b < n → Joined n overlaps a b → lastEntry (chainOf n overlaps a b) ≡ min a b
   chain-last a b g l j =
       leads-last n overlaps (max a b) (min a b) (chainOf n overlaps a b) (chain-best a b g l (joined-root a b j) .leading)
 
-  -- It is empty exactly if no chain joins the two, and exactly if their components differ.
+  -- If it is empty, no chain joins the two.
   pub chain-empty-apart : (a b : ℕ) → a < n → b < n → chainOf n overlaps a b ≡ [] → Joined n overlaps a b → ⊥
   chain-empty-apart a b g l e j =
       joins-not-empty n overlaps a b (rw e at (chain-earliest-shortest a b g l j .shortest .joining))
 
+  -- If no chain joins the two, it is empty.
   pub apart-chain-empty : (a b : ℕ) → a < n → b < n → (Joined n overlaps a b → ⊥) → chainOf n overlaps a b ≡ []
   apart-chain-empty a b g l d =
       let u = min a b in
@@ -180,9 +185,11 @@ module _ {n : ℕ} {overlaps : ℕ → ℕ → Bool} (ok : IntervalOrder n overl
       (λ s. differ (omega arith)) (lt-or-ge u v)))
       (lt-or-ge v (climb n overlaps u v))
 
+  -- It is empty exactly if no chain joins the two.
   pub chain-empty-iff-apart : (a b : ℕ) → a < n → b < n → (chainOf n overlaps a b ≡ []) ↔ (Joined n overlaps a b → ⊥)
   chain-empty-iff-apart a b g l = (chain-empty-apart a b g l, apart-chain-empty a b g l)
 
+  -- It is empty exactly if their components differ.
   pub chain-empty-iff-component : (a b : ℕ) → a < n → b < n → (chainOf n overlaps a b ≡ []) ↔ (component overlaps a ≡ component overlaps b → ⊥)
   chain-empty-iff-component a b g l =
       (λ e q. chain-empty-apart a b g l e (joined-iff-component a b g l .1 q), λ d. apart-chain-empty a b g l (λ j. d (joined-iff-component a b g l .0 j)))

@@ -2,29 +2,26 @@
 -- 1 more than the children's sizes together.
 -- Vocabulary: size, start, earlierSiblings, rank.
 -- Assumes nothing.
-use Prim.Native.Nat.{ℕ, zero, suc, _+_, _-_, _≤_, _<_}
-use mathlib.Core.Bool.{Bool, true, false, _&&_}
+use Prim.Native.Nat.{ℕ, zero, suc, _+_, _-_, _<_}
+use mathlib.Core.Bool.{Bool, true, _&&_}
 use mathlib.Core.Path.{_≡_, refl, sym, ap, _∙_}
-use mathlib.Core.Logic.{_⊎_, ⊎-elim}
-use mathlib.Core.List.{List, [], _∷_, _++_, append-assoc, flatMap, List·Memᴰ, List·Memᴰ·head, Memᴰ·append-left, Memᴰ·append-right}
+use mathlib.Core.List.{List, [], _∷_, _++_, append-assoc, flatMap, List·Memᴰ}
 use native.Mathlib.Omega.{arith}
 use lib.Dec.{ltb, eqb}
 use lib.ListN.{length, length-append}
 use borrow.Author.Tests.{ltb-true, eqb-true, lt-ltb, eq-eqb}
 use Rattle.sequences.specs.Search.{passing}
 use Rattle.sequences.specs.Lists.{indexOf, total}
-use Rattle.sequences.proofs.Tests.{lt-or-ge, and-left, and-right, and-intro}
+use Rattle.sequences.proofs.Tests.{and-left, and-right, and-intro}
 use Rattle.sequences.proofs.Passing.{passing-true, passing-add, passing-sound}
 use Rattle.sequences.proofs.Lists.{index-below, index-absent, index-here, index-append-left, index-append-right}
-use Rattle.sequences.proofs.FlatMap.{flatMap-sound, flatMap-complete, flatMap-append, length-flatMap}
-use Rattle.interval_graph.specs.Order.{IntervalOrder}
-use Rattle.interval_graph.specs.Tree.{parent, isRoot, ancestor, depth, root}
+use Rattle.sequences.proofs.FlatMap.{flatMap-sound, flatMap-append, length-flatMap}
+use Rattle.interval_graph.specs.Tree.{parent, ancestor, depth, root}
 use Rattle.interval_graph.specs.PostOrder.{children, postOrder, rank}
 use Rattle.interval_graph.specs.Size.{size, earlierSiblings, startTo, start}
-use Rattle.interval_graph.proofs.Parent.{parent-le}
-use Rattle.interval_graph.proofs.Ancestor.{ancestor-zero, ancestor-below}
+use Rattle.interval_graph.proofs.Ancestor.{ancestor-zero}
 use Rattle.interval_graph.proofs.Depth.{depth-step, fixed-depth, not-root-below, before-depth, ancestor-past}
-use Rattle.interval_graph.proofs.PostOrder.{Child, Under, children-sound, children-complete, child-depth, postOrder-children, under-child, under-ge, under-root, postOrder-sound, postOrder-complete}
+use Rattle.interval_graph.proofs.PostOrder.{Child, Under, children-sound, child-depth, postOrder-children, under-child, under-ge, under-root, postOrder-sound, postOrder-complete}
 
 module _ (n : ℕ) (overlaps : ℕ → ℕ → Bool) where
   -- size
@@ -38,6 +35,7 @@ module _ (n : ℕ) (overlaps : ℕ → ℕ → Bool) where
 
   -- start
 
+  -- The list of a root begins at 0.
   pub start-root : (v : ℕ) → parent overlaps v ≡ v → start n overlaps v ≡ 0
   unfolding start startTo
   start-root v e = rw (fixed-depth overlaps v e)
@@ -46,6 +44,7 @@ module _ (n : ℕ) (overlaps : ℕ → ℕ → Bool) where
   unfolding start startTo
   start-top v e = rw e
 
+  -- The list of a child begins behind those of its earlier siblings, counted from where its parent begins.
   pub start-child : (c : ℕ) → parent overlaps c < c → start n overlaps c ≡ start n overlaps (parent overlaps c) + total (size n overlaps) (earlierSiblings n overlaps c)
   unfolding start startTo
   start-child c h = rw (depth-step overlaps c h)

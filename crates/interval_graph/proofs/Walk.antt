@@ -2,26 +2,25 @@
 -- handovers, and none with as few stands earlier at any step.
 -- Vocabulary: walk, climb, Best (of the chains from the later window to the earlier).
 -- Assumes nothing.
-use Prim.Native.Nat.{ℕ, zero, suc, _+_, _-_, _≤_, _<_}
-use mathlib.Core.Bool.{Bool, true, false}
-use mathlib.Core.Path.{_≡_, refl, sym, ap, _∙_}
-use mathlib.Core.Logic.{_⊎_, ⊎-elim}
-use mathlib.Core.List.{List, [], _∷_, _++_}
+use Prim.Native.Nat.{ℕ, zero, suc, _≤_, _<_}
+use mathlib.Core.Bool.{Bool, true}
+use mathlib.Core.Path.{_≡_, refl, ap, _∙_}
+use mathlib.Core.Logic.{⊎-elim}
+use mathlib.Core.List.{List, [], _∷_}
 use native.Mathlib.Omega.{arith}
 use lib.ListN.{length, getD, length-append, List·getD-append}
-use lib.Seq.{getD-at}
 use Rattle.sequences.specs.Table.{table}
 use Rattle.sequences.proofs.Tests.{lt-or-ge}
 use Rattle.sequences.proofs.Table.{length-table, getD-table}
 use Rattle.interval_graph.specs.Order.{IntervalOrder}
-use Rattle.interval_graph.specs.Chain.{firstEntry, lastEntry, handovers, isChain, leads}
-use Rattle.interval_graph.specs.Tree.{last, parent, isRoot, ancestor, depth, root}
+use Rattle.interval_graph.specs.Chain.{firstEntry, lastEntry, handovers, leads}
+use Rattle.interval_graph.specs.Tree.{last, parent, ancestor, root}
 use Rattle.interval_graph.specs.Walk.{climb, walk}
 use Rattle.interval_graph.proofs.Last.{last-ge, last-overlap}
 use Rattle.interval_graph.proofs.Parent.{parent-le, parent-last, parent-overlaps}
-use Rattle.interval_graph.proofs.Ancestor.{ancestor-zero, ancestor-suc, ancestor-antitone, ancestor-below}
+use Rattle.interval_graph.proofs.Ancestor.{ancestor-zero, ancestor-suc, ancestor-below}
 use Rattle.interval_graph.proofs.Depth.{fixed-root, root-unique, root-le-ancestor}
-use Rattle.interval_graph.proofs.Chains.{first-getD, last-getD, last-snoc, last-table, handovers-alone, handovers-next, chain-alone, chain-snoc, chain-table, chain-not-empty, leads-chain, leads-first, leads-last, leads-intro}
+use Rattle.interval_graph.proofs.Chains.{first-getD, last-getD, last-snoc, last-table, handovers-alone, chain-alone, chain-snoc, chain-table, chain-not-empty, leads-chain, leads-first, leads-last, leads-intro}
 use Rattle.interval_graph.proofs.Climb.{climb-le, climb-before, climb-reaches, ancestor-le-chain, chain-climbs}
 
 -- Of the chains that lead from v to u, l has the fewest handovers, and of those with as few the earliest entry at
@@ -34,6 +33,7 @@ pub record Best (n : ℕ) (overlaps : ℕ → ℕ → Bool) (v u : ℕ) (l : Lis
 -- entries of the walk, of any overlap test
 
 module _ (n : ℕ) (overlaps : ℕ → ℕ → Bool) where
+  -- The walk has one handover more than there are steps up.
   pub walk-handovers : (u v : ℕ) → handovers (walk n overlaps u v) ≡ suc (climb n overlaps u v)
   unfolding handovers walk
   walk-handovers u v =
@@ -48,10 +48,11 @@ module _ (n : ℕ) (overlaps : ℕ → ℕ → Bool) where
       let k = suc (climb n overlaps u v) in
       List·getD-append (table f k) (u ∷ []) 0 i (omega (arith, length-table f k)) ∙ getD-table f k i 0 (omega arith)
 
-  -- It begins at v and ends at u.
+  -- It begins at v.
   pub walk-first : (u v : ℕ) → firstEntry (walk n overlaps u v) ≡ v
   walk-first u v = first-getD (walk n overlaps u v) ∙ walk-entry u v 0 (omega arith) ∙ ancestor-zero overlaps v
 
+  -- It ends at u.
   pub walk-last : (u v : ℕ) → lastEntry (walk n overlaps u v) ≡ u
   unfolding walk
   walk-last u v = last-snoc (table (λ i. ancestor overlaps i v) (suc (climb n overlaps u v))) u
@@ -98,8 +99,7 @@ module _ {n : ℕ} {overlaps : ℕ → ℕ → Bool} (ok : IntervalOrder n overl
       (ap (λ z. overlaps z u) (last-table f k) ∙ walk-end u v k h g refl r) (omega arith))
       (walk-first n overlaps u v) (walk-last n overlaps u v)
 
-  -- A chain from v to u has more handovers than steps are needed, and at each of these steps is at or behind the
-  -- ancestor.
+  -- A chain from v to u has more handovers than steps up are needed.
   pub climb-lt-handovers : (u v : ℕ) (m : List ℕ) → u < v → leads n overlaps v u m ≡ true → climb n overlaps u v < handovers m
   unfolding firstEntry lastEntry handovers
   climb-lt-handovers u v [] h t = absurd (chain-not-empty n overlaps (leads-chain n overlaps v u [] t))
@@ -108,6 +108,7 @@ module _ {n : ℕ} {overlaps : ℕ → ℕ → Bool} (ok : IntervalOrder n overl
   climb-lt-handovers u v (x ∷ (y ∷ l)) h t =
       omega (arith, climb-le n overlaps u v (length l) (chain-climbs ok l x y v u (leads-chain n overlaps v u (x ∷ (y ∷ l)) t) (leads-last n overlaps v u (x ∷ (y ∷ l)) t) (omega (arith, leads-first n overlaps v u (x ∷ (y ∷ l)) t))))
 
+  -- At each step it is at or behind the ancestor.
   pub ancestor-le-entry : (u v : ℕ) (m : List ℕ) → leads n overlaps v u m ≡ true → (i : ℕ) → i ≤ handovers m → ancestor overlaps i v ≤ getD m i 0
   unfolding firstEntry handovers
   ancestor-le-entry u v [] t i b = absurd (chain-not-empty n overlaps (leads-chain n overlaps v u [] t))

@@ -1,8 +1,8 @@
 -- Laws of `flatMap` on lists of numbers: its elements, its length, and what it depends on.
 -- Assumes nothing.
-use Prim.Native.Nat.{ℕ, zero, suc, _+_, _≤_, _<_}
+use Prim.Native.Nat.{ℕ}
 use mathlib.Core.Path.{_≡_, refl, sym, ap, _∙_}
-use mathlib.Core.Logic.{_⊎_, ⊎-elim}
+use mathlib.Core.Logic.{⊎-elim}
 use mathlib.Core.List.{List, [], _∷_, _++_, append-assoc, flatMap, List·Memᴰ, List·Memᴰ·head, List·Memᴰ·tail, List·Memᴰ·not-nil, List·Memᴰ·cases-cons, List·Memᴰ·append-cases, Memᴰ·append-left, Memᴰ·append-right}
 use native.Mathlib.Omega.{arith}
 use lib.ListN.{length, length-append}
@@ -24,6 +24,7 @@ flatMap-sound f (y ∷ l) x m =
     ⊎-elim (λ h. (y, List·Memᴰ·head refl, h))
     (λ h. let r = flatMap-sound f l x h in (r .0, List·Memᴰ·tail (r .1), r .2)) (List·Memᴰ·append-cases (f y) m)
 
+-- Of two lists one after another it is the one after the other.
 pub flatMap-append : (f : ℕ → List ℕ) (l m : List ℕ) → flatMap f (l ++ m) ≡ flatMap f l ++ flatMap f m
 unfolding flatMap
 flatMap-append f [] m = refl

@@ -3,9 +3,9 @@
 -- Vocabulary: Pairwise.
 -- Assumes nothing.
 use Prim.Native.Nat.{ℕ, zero, suc, _+_, _≤_, _<_}
-use mathlib.Core.Bool.{Bool, true, false}
+use mathlib.Core.Bool.{Bool}
 use mathlib.Core.Path.{_≡_, refl, sym, ap, _∙_}
-use mathlib.Core.Logic.{_⊎_, ⊎-elim}
+use mathlib.Core.Logic.{⊎-elim}
 use mathlib.Core.List.{List, [], _∷_, _++_, flatMap, List·Memᴰ, List·Memᴰ·head, List·Memᴰ·tail, List·Memᴰ·not-nil, List·Memᴰ·cases-cons, List·Memᴰ·append-cases}
 use native.Mathlib.Omega.{arith}
 use lib.Dec.{ltb, eqb, leb·suc-suc}
@@ -22,11 +22,13 @@ use Rattle.sequences.proofs.FlatMap.{flatMap-sound}
 member-tail : (x z : ℕ) (l : List ℕ) → (x ≡ z → ⊥) → List·Memᴰ x (z ∷ l) → List·Memᴰ x l
 member-tail x z l d h = ⊎-elim (λ e. absurd (d e)) (λ g. g) (List·Memᴰ·cases-cons h)
 
+-- Of two entries the earlier stands in the relation to the later.
 abbrev pub Pairwise : (ℕ → ℕ → Type 0) → List ℕ → Type 0
 Pairwise R [] = Unit {0}
 Pairwise R (x ∷ l) = ((y : ℕ) → List·Memᴰ y l → R x y) × Pairwise R l
 
 module _ (R : ℕ → ℕ → Type 0) where
+  -- Two pairwise lists, each entry of the one in the relation to each of the other, one after the other.
   pub pairwise-append : (l m : List ℕ) → Pairwise R l → Pairwise R m → ((x y : ℕ) → List·Memᴰ x l → List·Memᴰ y m → R x y) → Pairwise R (l ++ m)
   pairwise-append [] m p q c = q
   pairwise-append (x ∷ l) m p q c =
@@ -66,7 +68,7 @@ module _ (R : ℕ → ℕ → Type 0) where
         index-there (getD l i 0) z l (λ e. pairwise-fresh z l p (rw e at (getD-member l i (omega arith))))
         ∙ ap suc (pairwise-once l i (p .1) (omega arith))
 
-    -- A list of numbers below n has as many entries as numbers below n are in it, so at most n.
+    -- A list of numbers below n has as many entries as numbers below n are in it.
     pub pairwise-count : (l : List ℕ) (n : ℕ) → Pairwise R l → ((x : ℕ) → List·Memᴰ x l → x < n) → count (λ k. ltb (indexOf k l) (length l)) n ≡ length l
     unfolding count
     pairwise-count [] n p b =
@@ -80,6 +82,7 @@ module _ (R : ℕ → ℕ → Type 0) where
         (λ k d. sym (ap (λ i. ltb i (length (z ∷ l))) (index-there k z l d) ∙ leb·suc-suc (suc (indexOf k l)) (length l)))
         ∙ ap suc (pairwise-count l n (p .1) (λ x h. b x (List·Memᴰ·tail h)))
 
+    -- So it has at most n entries.
     pub pairwise-length : (l : List ℕ) (n : ℕ) → Pairwise R l → ((x : ℕ) → List·Memᴰ x l → x < n) → length l ≤ n
     pairwise-length l n p b = omega (arith, pairwise-count l n p b, count-le (λ k. ltb (indexOf k l) (length l)) n)
 
