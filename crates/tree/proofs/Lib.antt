@@ -4,3 +4,4 @@ pub mod Reading
 pub mod Searching
 pub mod Prepared
 pub mod Leveled
+pub mod Validated

@@ -32,7 +32,13 @@ fn roots_with(roots: u16, parent: usize, position: usize) -> u16
 }
 
 // Answers with the number of components.
-pub(crate) fn number_levels(file: &[u8], windows: usize, parents: &[u16], components: &mut [u16], depths: &mut [u16]) -> u16
+pub(crate) fn number_levels(
+    file: &[u8],
+    windows: usize,
+    parents: &[u16],
+    components: &mut [u16],
+    depths: &mut [u16],
+) -> u16
     requires { ⌜ Parented (now file) windows (now parents) ⌝ }
     requires { ⌜ windows ≤ length (now components) ⌝ }
     requires { ⌜ windows ≤ length (now depths) ⌝ }

@@ -2,8 +2,8 @@
 -- Assumes nothing.
 use mathlib.Core.Bool.{Bool, true, false}
 use mathlib.Core.Path.{_≡_, refl, sym, _∙_}
-use mathlib.Core.Logic.{⊎-elim}
-use mathlib.Core.List.{List, [], _∷_, List·Memᴰ, List·Memᴰ·not-nil, List·Memᴰ·cases-cons}
+use mathlib.Core.Logic.{_⊎_, inl, inr, ⊎-elim}
+use mathlib.Core.List.{List, [], _∷_, _++_, List·Memᴰ, List·Memᴰ·not-nil, List·Memᴰ·cases-cons}
 use Rattle.sequences.proofs.Tests.{truth}
 use Rattle.wire.specs.declared.Refusal.{Refusal}
 use Rattle.wire.specs.Question.{Question, firstNo}
@@ -28,3 +28,23 @@ accepts-yes (p ∷ qs) refused accepted apart e q m =
     (λ later. accepts-yes qs refused accepted apart (sym (first-yes qs refused accepted p t) ∙ e) q later) (List·Memᴰ·cases-cons m))
     (λ t. absurd (apart (p .refusal) (sym (first-no qs refused accepted p t) ∙ e)))
     (truth (p .yes))
+
+-- Questions after others are asked where those are all answered "yes".
+pub first-append : {A : Type 0} (s t : List Question) (refused : Refusal → A) (accepted : A) → firstNo (s ++ t) refused accepted ≡ firstNo s refused (firstNo t refused accepted)
+unfolding firstNo
+first-append [] t refused accepted = refl
+first-append (q ∷ s) t refused accepted = rw (first-append s t refused accepted)
+
+-- What is made of an answer is the answer made of its cases.
+pub first-map : {A B : Type 0} (f : A → B) (qs : List Question) (refused : Refusal → A) (accepted : A) → f (firstNo qs refused accepted) ≡ firstNo qs (λ r. f (refused r)) (f accepted)
+unfolding firstNo
+first-map f [] refused accepted = refl
+first-map f (q ∷ qs) refused accepted =
+    ⊎-elim (λ t. rw t (first-map f qs refused accepted)) (λ t. rw t) (truth (q .yes))
+
+-- The answer is what is accepted, or some refusal.
+pub first-cases : {A : Type 0} (qs : List Question) (refused : Refusal → A) (accepted : A) → (firstNo qs refused accepted ≡ accepted) ⊎ ((r : Refusal) × (firstNo qs refused accepted ≡ refused r))
+unfolding firstNo
+first-cases [] refused accepted = inl refl
+first-cases (q ∷ qs) refused accepted =
+    ⊎-elim (λ t. rw t (first-cases qs refused accepted)) (λ t. inr (q .refusal, rw t)) (truth (q .yes))

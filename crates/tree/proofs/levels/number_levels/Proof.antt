@@ -71,9 +71,10 @@ same-length-2 : tie.Need-same-length-2 Inv-loop μ-loop
 same-length-2 c = search needs
 
 returns : tie.Need-returns Inv-loop μ-loop
-returns c = let d = c .before .before .before .before .before .before in
-    ( leveled-end _ _ _ _ _ _ _ _ (d .pre .0 .counted) (c .loop-test .left) (c .before .loop .inv)
-    , (filling-end _ _ _ _ _ (c .loop-test .left) (c .before .loop .inv .components-filling), filling-end _ _ _ _ _ (c .loop-test .left) (c .before .loop .inv .depths-filling)))
+returns c = let d = c .before .before .before .before .before .before in (
+  leveled-end _ _ _ _ _ _ _ _ (d .pre .0 .counted) (c .loop-test .left) (c .before .loop .inv),
+  (filling-end _ _ _ _ _ (c .loop-test .left) (c .before .loop .inv .components-filling), filling-end _ _ _ _ _ (c .loop-test .left) (c .before .loop .inv .depths-filling)),
+)
 
 pub number-levels-spec : {M : Type 1} → statement M
 number-levels-spec =
