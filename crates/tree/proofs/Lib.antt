@@ -5,3 +5,6 @@ pub mod Searching
 pub mod Prepared
 pub mod Leveled
 pub mod Validated
+pub mod Counted
+pub mod Sizing
+pub mod Ranking

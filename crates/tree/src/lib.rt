@@ -3,6 +3,8 @@ mod answers;
 mod lasts;
 mod levels;
 mod parents;
+mod ranks;
+mod sizes;
 mod spans;
 
 pub use answers::TableAnswer;
