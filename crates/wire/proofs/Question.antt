@@ -3,7 +3,7 @@
 use mathlib.Core.Bool.{Bool, true, false}
 use mathlib.Core.Path.{_≡_, refl, sym, _∙_}
 use mathlib.Core.Logic.{⊎-elim}
-use mathlib.Core.List.{List, [], _∷_, List·Memᴰ, List·Memᴰ·not-nil, List·Memᴰ·cases-cons}
+use mathlib.Core.List.{List, [], _∷_, _++_, List·Memᴰ, List·Memᴰ·not-nil, List·Memᴰ·cases-cons}
 use Rattle.sequences.proofs.Tests.{truth}
 use Rattle.wire.specs.declared.Refusal.{Refusal}
 use Rattle.wire.specs.Question.{Question, firstNo}
@@ -19,6 +19,12 @@ module _ {A : Type 0} (later : List Question) (refused : Refusal → A) (accepte
   unfolding firstNo
   first-no q t = rw t
 
+-- Questions after others are what the first ones accept.
+pub first-append : {A : Type 0} (qs later : List Question) (refused : Refusal → A) (accepted : A) → firstNo (qs ++ later) refused accepted ≡ firstNo qs refused (firstNo later refused accepted)
+unfolding firstNo
+first-append [] later refused accepted = refl
+first-append (q ∷ qs) later refused accepted = rw (first-append qs later refused accepted)
+
 -- Where the answer is what is accepted, every question is answered "yes".
 pub accepts-yes : {A : Type 0} (qs : List Question) (refused : Refusal → A) (accepted : A) → ((r : Refusal) → refused r ≡ accepted → ⊥) → firstNo qs refused accepted ≡ accepted → (q : Question) → List·Memᴰ q qs → q .yes ≡ true
 accepts-yes [] refused accepted apart e q m = absurd (List·Memᴰ·not-nil m)
@@ -28,3 +34,11 @@ accepts-yes (p ∷ qs) refused accepted apart e q m =
     (λ later. accepts-yes qs refused accepted apart (sym (first-yes qs refused accepted p t) ∙ e) q later) (List·Memᴰ·cases-cons m))
     (λ t. absurd (apart (p .refusal) (sym (first-no qs refused accepted p t) ∙ e)))
     (truth (p .yes))
+
+-- An answer that is no refusal is what is accepted.
+pub answer-accepted : {A : Type 0} (qs : List Question) (refused : Refusal → A) (accepted a : A) → ((r : Refusal) → refused r ≡ a → ⊥) → firstNo qs refused accepted ≡ a → accepted ≡ a
+unfolding firstNo
+answer-accepted [] refused accepted a apart e = e
+answer-accepted (q ∷ qs) refused accepted a apart e =
+    ⊎-elim (λ t. answer-accepted qs refused accepted a apart (sym (first-yes qs refused accepted q t) ∙ e))
+    (λ t. absurd (apart (q .refusal) (sym (first-no qs refused accepted q t) ∙ e))) (truth (q .yes))
