@@ -19,6 +19,12 @@ module _ {A : Type 0} (later : List Question) (refused : Refusal → A) (accepte
   unfolding firstNo
   first-no q t = rw t
 
+-- Questions after others are what the first ones accept.
+pub first-append : {A : Type 0} (qs later : List Question) (refused : Refusal → A) (accepted : A) → firstNo (qs ++ later) refused accepted ≡ firstNo qs refused (firstNo later refused accepted)
+unfolding firstNo
+first-append [] later refused accepted = refl
+first-append (q ∷ qs) later refused accepted = rw (first-append qs later refused accepted)
+
 -- Where the answer is what is accepted, every question is answered "yes".
 pub accepts-yes : {A : Type 0} (qs : List Question) (refused : Refusal → A) (accepted : A) → ((r : Refusal) → refused r ≡ accepted → ⊥) → firstNo qs refused accepted ≡ accepted → (q : Question) → List·Memᴰ q qs → q .yes ≡ true
 accepts-yes [] refused accepted apart e q m = absurd (List·Memᴰ·not-nil m)
@@ -28,12 +34,6 @@ accepts-yes (p ∷ qs) refused accepted apart e q m =
     (λ later. accepts-yes qs refused accepted apart (sym (first-yes qs refused accepted p t) ∙ e) q later) (List·Memᴰ·cases-cons m))
     (λ t. absurd (apart (p .refusal) (sym (first-no qs refused accepted p t) ∙ e)))
     (truth (p .yes))
-
--- Questions after others are asked where those are all answered "yes".
-pub first-append : {A : Type 0} (s t : List Question) (refused : Refusal → A) (accepted : A) → firstNo (s ++ t) refused accepted ≡ firstNo s refused (firstNo t refused accepted)
-unfolding firstNo
-first-append [] t refused accepted = refl
-first-append (q ∷ s) t refused accepted = rw (first-append s t refused accepted)
 
 -- What is made of an answer is the answer made of its cases.
 pub first-map : {A B : Type 0} (f : A → B) (qs : List Question) (refused : Refusal → A) (accepted : A) → f (firstNo qs refused accepted) ≡ firstNo qs (λ r. f (refused r)) (f accepted)
@@ -48,3 +48,8 @@ unfolding firstNo
 first-cases [] refused accepted = inl refl
 first-cases (q ∷ qs) refused accepted =
     ⊎-elim (λ t. rw t (first-cases qs refused accepted)) (λ t. inr (q .refusal, rw t)) (truth (q .yes))
+
+-- An answer that is no refusal is what is accepted.
+pub answer-accepted : {A : Type 0} (qs : List Question) (refused : Refusal → A) (accepted a : A) → ((r : Refusal) → refused r ≡ a → ⊥) → firstNo qs refused accepted ≡ a → accepted ≡ a
+answer-accepted qs refused accepted a apart e =
+    ⊎-elim (λ same. sym same ∙ e) (λ r. absurd (apart (r .0) (sym (r .1) ∙ e))) (first-cases qs refused accepted)
