@@ -1,13 +1,14 @@
 -- For calls that put questions 1 to 6 to a file by `validate` and then ask more.
 -- Assumes nothing.
 use Prim.Native.Nat.{ℕ}
+use mathlib.Core.Bool.{true, false}
 use mathlib.Core.Path.{_≡_, sym, _∙_}
 use mathlib.Core.Logic.{⊎-elim}
-use mathlib.Core.List.{List, _++_}
+use mathlib.Core.List.{List, [], _∷_, _++_}
 use native.Mathlib.Omega.{arith}
 use Rattle.wire.specs.declared.Refusal.{Refusal}
 use Rattle.wire.specs.Question.{Question, firstNo}
-use Rattle.wire.proofs.Question.{first-append, first-map, first-cases}
+use Rattle.wire.proofs.Question.{first-yes, first-no, first-append, first-map, first-cases}
 use Rattle.plan.specs.declared.questions.Validation.{Validation}
 use Rattle.plan.specs.declared.questions.Validation.the-variants.{Accepted, Refused}
 use Rattle.plan.specs.File.{planNumber, windowCount}
@@ -37,3 +38,22 @@ pub accepted-plan : (file : List ℕ) (plan windows : ℕ) → Accepted plan win
 accepted-plan file plan windows e =
     let numbers = accepted-numbers file plan windows e in
     sym e ∙ cc
+
+-- The answer of a call that validates first and then asks more, by what the validation answered.
+module _ {A : Type 0} (file : List ℕ) (more : List Question) (refused : Refusal → A) (accepted : A) (answer : Validation) (validated : answer ≡ validateOf file) where
+  pub plan-refused : (refusal : Refusal) → answer ≡ Refused refusal → refused refusal ≡ firstNo (planQuestions 0 file ++ more) refused accepted
+  plan-refused refusal e = sym (plan-first file more refused accepted ∙ rw (← validated, e))
+
+  pub plan-accepted : (plan windows : ℕ) → answer ≡ Accepted plan windows → firstNo more refused accepted ≡ firstNo (planQuestions 0 file ++ more) refused accepted
+  plan-accepted plan windows e = sym (plan-first file more refused accepted ∙ rw (← validated, e))
+
+-- The same where one question more is asked.
+module _ {A : Type 0} (file : List ℕ) (q : Question) (refused : Refusal → A) (accepted : A) (answer : Validation) (validated : answer ≡ validateOf file) (plan windows : ℕ) (e : answer ≡ Accepted plan windows) where
+  pub one-more-no : q .yes ≡ false → refused (q .refusal) ≡ firstNo (planQuestions 0 file ++ (q ∷ [])) refused accepted
+  one-more-no t =
+      sym (first-no [] refused accepted q t) ∙ plan-accepted file (q ∷ []) refused accepted answer validated plan windows e
+
+  pub one-more-yes : q .yes ≡ true → accepted ≡ firstNo (planQuestions 0 file ++ (q ∷ [])) refused accepted
+  unfolding firstNo
+  one-more-yes t =
+      sym (first-yes [] refused accepted q t) ∙ plan-accepted file (q ∷ []) refused accepted answer validated plan windows e

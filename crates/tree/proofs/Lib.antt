@@ -8,3 +8,5 @@ pub mod Validated
 pub mod Counted
 pub mod Sizing
 pub mod Ranking
+pub mod Tagged
+pub mod Fitting

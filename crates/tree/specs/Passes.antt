@@ -1,6 +1,6 @@
 -- What the passes are handed and what the searches inside them find. Nothing here has to be believed: no public promise
 -- cites it.
--- Vocabulary: Prepared, Parented, FirstPast, Sorted, LastBefore.
+-- Vocabulary: Prepared, Parented, Numbered, FirstPast, Sorted, LastBefore.
 use Prim.Native.Nat.{ℕ, _≤_, _<_}
 use mathlib.Core.Path.{_≡_}
 use mathlib.Core.List.{List}
@@ -8,7 +8,7 @@ use lib.ListN.{getD}
 use Rattle.sequences.specs.Table.{Holds}
 use Rattle.plan.specs.File.{windowCount}
 use Rattle.plan.specs.Validation.{AcceptedPlan}
-use Rattle.tree.specs.Tables.{offsetAt, endAt, parentOf}
+use Rattle.tree.specs.Tables.{offsetAt, endAt, parentOf, componentOf, depthOf, rankOf, lastRankOf}
 
 -- An accepted plan's file, how many windows it has, and its offsets and ends as tables.
 pub record Prepared (file : List ℕ) (windows : ℕ) (offsets ends : List ℕ) : Type 0 where
@@ -22,6 +22,15 @@ pub record Parented (file : List ℕ) (windows : ℕ) (parents : List ℕ) : Typ
   pub accepted : AcceptedPlan file
   pub counted : windows ≡ windowCount file
   pub parents-held : Holds parents (parentOf file) windows
+
+-- An accepted plan's file, how many windows it has, and the four tables that its tags are made of.
+pub record Numbered (file : List ℕ) (windows : ℕ) (components depths ranks lastRanks : List ℕ) : Type 0 where
+  pub accepted : AcceptedPlan file
+  pub counted : windows ≡ windowCount file
+  pub components-held : Holds components (componentOf file) windows
+  pub depths-held : Holds depths (depthOf file) windows
+  pub ranks-held : Holds ranks (rankOf file) windows
+  pub last-ranks-held : Holds lastRanks (lastRankOf file) windows
 
 -- r is the first position from `from` on whose end lies past the offset, or `to`.
 pub record FirstPast (ends : List ℕ) (offset from to r : ℕ) : Type 0 where

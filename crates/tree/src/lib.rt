@@ -1,12 +1,15 @@
 // The distance tree of a plan: its five tables and its tag file.
 mod answers;
+mod building;
 mod lasts;
 mod levels;
 mod parents;
 mod ranks;
 mod sizes;
 mod spans;
+mod tagging;
 
-pub use answers::TableAnswer;
+pub use answers::{BuildAnswer, ReachAnswer, TableAnswer};
+pub use building::build;
 pub use lasts::last_table;
 pub use parents::parent_table;

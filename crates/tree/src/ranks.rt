@@ -1,5 +1,6 @@
 // Ranks, in one pass from the front: a window's list begins where its parent's does, behind its earlier siblings' lists, and the
 // window comes last in it.
+use crate::sizes::add_sizes;
 ghost use mathlib.Core.Path.{_≡_};
 ghost use mathlib.Core.Bool.{cond};
 ghost use Prim.Native.Nat.{_+_, _≤_, _<_};
@@ -28,7 +29,7 @@ fn claim(next: &mut [u16], parent: usize, position: usize, size: u16) -> u16
 }
 
 // `next` is scratch of at least as many entries.
-pub(crate) fn assign_ranks(
+fn assign_ranks(
     file: &[u8],
     windows: usize,
     parents: &[u16],
@@ -50,6 +51,18 @@ pub(crate) fn assign_ranks(
         ranks[position] = start + size - 1;
         position += 1;
     }
+}
+
+// All ranks, by the sizes.
+pub(crate) fn fill_ranks(file: &[u8], windows: usize, parents: &[u16], ranks: &mut [u16])
+    requires { ⌜ Parented (now file) windows (now parents) ⌝ }
+    requires { ⌜ windows ≤ length (now ranks) ⌝ }
+    ensures { λ _. ⌜ now (ranks .exit) ≡ overwritten (now (ranks .entry)) (table (rankOf (now (file .entry))) windows) ⌝ }
+{
+    let mut sizes = [1; 2048];
+    let mut next = [0; 2048];
+    add_sizes(file, windows, parents, &mut sizes);
+    assign_ranks(file, windows, parents, &sizes, &mut next, ranks);
 }
 
 // The rank of each window's last.

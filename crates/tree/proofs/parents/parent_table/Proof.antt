@@ -19,14 +19,14 @@ enum-known-refusal c = search needs
 
 returns : tie.Need-returns
 unfolding afterTable
-returns c = (table-refused _ _ _ (c .before .before .before .validate .ensures) _ (c .before .refusal .given .1), refl)
+returns c = (table-refused _ _ (c .before .before .before .validate .ensures) _ _ (c .before .refusal .given .1), refl)
 
 cast-if1 : tie.Need-cast-if1
 cast-if1 c = search needs
 
 returns-2 : tie.Need-returns-2
 unfolding afterTable
-returns-2 c = (table-short _ _ _ (c .before .before .before .before .validate .ensures) _ _ (c .before .before .windows .given .1) (c .if1 .taken), refl)
+returns-2 c = (table-short _ _ (c .before .before .before .before .validate .ensures) _ _ (c .before .before .windows .given .1) _ (c .if1 .taken), refl)
 
 cast-fill-parents : tie.Need-cast-fill-parents
 cast-fill-parents c = search needs
@@ -40,7 +40,7 @@ same-length c = search needs
 
 returns-3 : tie.Need-returns-3
 unfolding afterTable
-returns-3 c = (table-filled _ _ _ (c .before .before .before .before .before .before .before .before .validate .ensures) _ _ (c .before .before .before .before .before .before .windows .given .1) (c .before .before .before .before .if1 .left), c .before .before .fill-parents .ensures)
+returns-3 c = (table-filled _ _ (c .before .before .before .before .before .before .before .before .validate .ensures) _ _ (c .before .before .before .before .before .before .windows .given .1) _ (c .before .before .before .before .if1 .left), c .before .before .fill-parents .ensures)
 
 pub parent-table-spec : {M : Type 1} → statement M
 parent-table-spec =
