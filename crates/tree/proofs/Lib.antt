@@ -10,3 +10,4 @@ pub mod Sizing
 pub mod Ranking
 pub mod Tagged
 pub mod Fitting
+pub mod Reached

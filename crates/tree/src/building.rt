@@ -1,14 +1,15 @@
 // Build: validation, room, and then the passes, one after the other.
-use plan::Validation;
-use tag::Tag;
-use wire::Refusal;
 use crate::answers::BuildAnswer;
 use crate::lasts::find_lasts;
 use crate::levels::number_levels;
 use crate::parents::find_parents;
-use crate::ranks::{fill_ranks, rank_lasts};
+use crate::ranks::fill_ranks;
+use crate::ranks::rank_lasts;
 use crate::spans::read_spans;
 use crate::tagging::write_tags;
+use plan::Validation;
+use tag::Tag;
+use wire::Refusal;
 ghost use mathlib.Core.Path.{_≡_};
 ghost use mathlib.Core.Bool.{true};
 ghost use Prim.Native.Nat.{_≤_};
@@ -21,7 +22,15 @@ ghost use Rattle.tree.specs.Tables.{parentOf, lastOf, componentOf, depth
 ghost use Rattle.tree.specs.Build.{tablesFit, buildOf, afterBuild, afterTags};
 
 // Whether tables of so many entries, and a tag file of so many bytes, hold what is to be written.
-fn tables_fit(windows: usize, parents: usize, components: usize, depths: usize, ranks: usize, last_ranks: usize, tags: usize) -> bool
+fn tables_fit(
+    windows: usize,
+    parents: usize,
+    components: usize,
+    depths: usize,
+    ranks: usize,
+    last_ranks: usize,
+    tags: usize,
+) -> bool
     requires { ⌜ windows ≤ 2048 ⌝ }
     ensures { λ r. ⌜ r ≡ tablesFit windows parents components depths ranks «last_ranks» tags ⌝ }
 {
@@ -88,7 +97,16 @@ fn fill_tables(
     let count = number_levels(file, windows, parents, components, depths);
     fill_ranks(file, windows, parents, ranks);
     rank_lasts(file, windows, &lasts, ranks, last_ranks);
-    write_tags(file, windows, plan, components, depths, ranks, last_ranks, tags);
+    write_tags(
+        file,
+        windows,
+        plan,
+        components,
+        depths,
+        ranks,
+        last_ranks,
+        tags,
+    );
     count
 }
 
@@ -113,14 +131,32 @@ pub fn build(
     match plan::validate(file) {
         Validation::Refused(refusal) => BuildAnswer::Refused(refusal),
         Validation::Accepted { plan, windows } => {
-            if !tables_fit(windows as usize, parents.len(), components.len(), depths.len(), ranks.len(), last_ranks.len(), tags.len()) {
+            if !tables_fit(
+                windows as usize,
+                parents.len(),
+                components.len(),
+                depths.len(),
+                ranks.len(),
+                last_ranks.len(),
+                tags.len(),
+            ) {
                 return BuildAnswer::Refused(Refusal {
                     number: 8,
                     input: 0,
                     position: 0,
                 });
             }
-            let count = fill_tables(file, windows as usize, plan, parents, components, depths, ranks, last_ranks, tags);
+            let count = fill_tables(
+                file,
+                windows as usize,
+                plan,
+                parents,
+                components,
+                depths,
+                ranks,
+                last_ranks,
+                tags,
+            );
             BuildAnswer::Built {
                 plan,
                 windows,

@@ -49,7 +49,7 @@ pub(crate) fn find_parents(
     }
 }
 
-fn fill_parents(file: &[u8], windows: usize, parents: &mut [u16])
+pub(crate) fn fill_parents(file: &[u8], windows: usize, parents: &mut [u16])
     requires { ⌜ AcceptedPlan (now file) ⌝ }
     requires { ⌜ windows ≡ windowCount (now file) ⌝ }
     requires { ⌜ windows ≤ length (now parents) ⌝ }

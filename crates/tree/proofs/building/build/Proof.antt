@@ -63,9 +63,10 @@ same-length-6 c = search needs
 
 returns-3 : tie.Need-returns-3
 unfolding afterBuild afterTags
-returns-3 c = let filled = c .before .before .before .before .before .before .before .before .before .before .before .before .fill-tables .ensures in
-    ( build-built _ _ (c .before .before .before .before .before .before .before .before .before .before .before .before .before .before .before .before .before .before .before .before .before .before .before .before .validate .ensures) _ _ (c .before .before .before .before .before .before .before .before .before .before .before .before .before .before .before .before .before .before .before .before .before .before .plan .given .1) _ _ _ _ _ _ _ (sym (c .before .before .before .before .before .before .before .before .before .before .before .before .before .before .before .before .before .before .before .before .tables-fit .ensures) ∙ not-false _ (c .before .before .before .before .before .before .before .before .before .before .before .before .before .before .before .before .before .before .before .if1 .left)) (filled .0)
-    , filled .1)
+returns-3 c = let filled = c .before .before .before .before .before .before .before .before .before .before .before .before .fill-tables .ensures in (
+  build-built _ _ (c .before .before .before .before .before .before .before .before .before .before .before .before .before .before .before .before .before .before .before .before .before .before .before .before .validate .ensures) _ _ (c .before .before .before .before .before .before .before .before .before .before .before .before .before .before .before .before .before .before .before .before .before .before .plan .given .1) _ _ _ _ _ _ _ (sym (c .before .before .before .before .before .before .before .before .before .before .before .before .before .before .before .before .before .before .before .before .tables-fit .ensures) ∙ not-false _ (c .before .before .before .before .before .before .before .before .before .before .before .before .before .before .before .before .before .before .before .if1 .left)) (filled .0),
+  filled .1,
+)
 
 pub build-spec : {M : Type 1} → statement M
 build-spec =

@@ -29,18 +29,24 @@ slice-aggregate-rank-lasts c = search needs
 
 rank-lasts-requires : tie.Need-rank-lasts-requires
 rank-lasts-requires c κs = let q = c .before .before .before .before .before .before .before .before .before .before .before .before .before .before .before .before .before .before .before .before .before .before .before .before .before .before .before .before .before .pre in
-    let rooms = tables-rooms _ _ _ _ _ _ _ (q .1 .1 .1) in
-    ( q .0
-    , ( q .1 .0
-      , ( overwritten-holds _ _ _ _ (windows-fit _ _ (q .0) (q .1 .0)) (c .before .before .before .before .before .before .before .before .before .before .before .before .before .before .before .before .before .before .before .fill-parents-and-lasts .ensures .1)
-        , (overwritten-holds _ _ _ _ (rooms .ranks-room) (c .before .before .before .before .before .fill-ranks .ensures), rooms .last-ranks-room))))
+    let rooms = tables-rooms _ _ _ _ _ _ _ (q .1 .1 .1) in (
+      q .0,
+      (
+        q .1 .0,
+        (
+          overwritten-holds _ _ _ _ (windows-fit _ _ (q .0) (q .1 .0)) (c .before .before .before .before .before .before .before .before .before .before .before .before .before .before .before .before .before .before .before .fill-parents-and-lasts .ensures .1),
+          (overwritten-holds _ _ _ _ (rooms .ranks-room) (c .before .before .before .before .before .fill-ranks .ensures), rooms .last-ranks-room),
+        ),
+      ),
+    )
 
 write-tags-requires : tie.Need-write-tags-requires
 write-tags-requires c κs = let q = c .before .before .before .before .before .before .before .before .before .before .before .before .before .before .before .before .before .before .before .before .before .before .before .before .before .before .before .before .before .before .before .before .before .before .before .before .before .pre in
     let rooms = tables-rooms _ _ _ _ _ _ _ (q .1 .1 .1) in
-    let levels = c .before .before .before .before .before .before .before .before .before .before .before .before .before .before .before .before .before .before .before .before .number-levels .ensures in
-    ( numbered-filled _ _ _ _ _ _ _ _ _ _ (q .0) (q .1 .0) rooms (levels .1 .0) (levels .1 .1) (c .before .before .before .before .before .before .before .before .before .before .before .before .before .fill-ranks .ensures) (c .before .before .before .before .before .before .before .rank-lasts .ensures)
-    , (q .1 .1 .0, rooms .tags-room))
+    let levels = c .before .before .before .before .before .before .before .before .before .before .before .before .before .before .before .before .before .before .before .before .number-levels .ensures in (
+      numbered-filled _ _ _ _ _ _ _ _ _ _ (q .0) (q .1 .0) rooms (levels .1 .0) (levels .1 .1) (c .before .before .before .before .before .before .before .before .before .before .before .before .before .fill-ranks .ensures) (c .before .before .before .before .before .before .before .rank-lasts .ensures),
+      (q .1 .1 .0, rooms .tags-room),
+    )
 
 same-length : tie.Need-same-length
 same-length c = search needs
@@ -61,12 +67,19 @@ same-length-6 : tie.Need-same-length-6
 same-length-6 c = search needs
 
 returns : tie.Need-returns
-returns c = let levels = c .before .before .before .before .before .before .before .before .before .before .before .before .before .before .before .before .before .before .before .before .before .before .before .number-levels .ensures in
-    ( levels .0
-    , ( c .before .before .before .before .before .before .before .before .before .before .before .before .before .before .before .before .before .before .before .before .before .before .before .before .before .before .before .before .before .before .fill-parents-and-lasts .ensures .0
-      , ( levels .1 .0
-        , ( levels .1 .1
-          , (c .before .before .before .before .before .before .before .before .before .before .before .before .before .before .before .before .fill-ranks .ensures, (c .before .before .before .before .before .before .before .before .before .before .rank-lasts .ensures, c .before .before .write-tags .ensures))))))
+returns c = let levels = c .before .before .before .before .before .before .before .before .before .before .before .before .before .before .before .before .before .before .before .before .before .before .before .number-levels .ensures in (
+  levels .0,
+  (
+    c .before .before .before .before .before .before .before .before .before .before .before .before .before .before .before .before .before .before .before .before .before .before .before .before .before .before .before .before .before .before .fill-parents-and-lasts .ensures .0,
+    (
+      levels .1 .0,
+      (
+        levels .1 .1,
+        (c .before .before .before .before .before .before .before .before .before .before .before .before .before .before .before .before .fill-ranks .ensures, (c .before .before .before .before .before .before .before .before .before .before .rank-lasts .ensures, c .before .before .write-tags .ensures)),
+      ),
+    ),
+  ),
+)
 
 pub fill-tables-spec : {M : Type 1} → statement M
 fill-tables-spec =

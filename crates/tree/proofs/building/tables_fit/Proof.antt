@@ -21,32 +21,35 @@ returns-3 c = rw (le-leb _ _ (c .before .before .if1 .left), le-leb _ _ (c .befo
 
 returns-4 : tie.Need-returns-4
 unfolding tablesFit
-returns-4 c = rw
-    ( le-leb _ _ (c .before .before .before .if1 .left)
-    , le-leb _ _ (c .before .before .if2 .left)
-    , le-leb _ _ (c .before .if3 .left)
-    , lt-leb _ _ (c .if4 .taken))
+returns-4 c = rw (
+  le-leb _ _ (c .before .before .before .if1 .left),
+  le-leb _ _ (c .before .before .if2 .left),
+  le-leb _ _ (c .before .if3 .left),
+  lt-leb _ _ (c .if4 .taken),
+)
 
 returns-5 : tie.Need-returns-5
 unfolding tablesFit
-returns-5 c = rw
-    ( le-leb _ _ (c .before .before .before .before .if1 .left)
-    , le-leb _ _ (c .before .before .before .if2 .left)
-    , le-leb _ _ (c .before .before .if3 .left)
-    , le-leb _ _ (c .before .if4 .left)
-    , lt-leb _ _ (c .if5 .taken))
+returns-5 c = rw (
+  le-leb _ _ (c .before .before .before .before .if1 .left),
+  le-leb _ _ (c .before .before .before .if2 .left),
+  le-leb _ _ (c .before .before .if3 .left),
+  le-leb _ _ (c .before .if4 .left),
+  lt-leb _ _ (c .if5 .taken),
+)
 
 mul-result : tie.Need-mul-result
 mul-result c = search needs
 
 returns-6 : tie.Need-returns-6
 unfolding tablesFit tagLength fieldCount
-returns-6 c = rw
-    ( le-leb _ _ (c .before .before .before .before .if1 .left)
-    , le-leb _ _ (c .before .before .before .if2 .left)
-    , le-leb _ _ (c .before .before .if3 .left)
-    , le-leb _ _ (c .before .if4 .left)
-    , le-leb _ _ (c .if5 .left))
+returns-6 c = rw (
+  le-leb _ _ (c .before .before .before .before .if1 .left),
+  le-leb _ _ (c .before .before .before .if2 .left),
+  le-leb _ _ (c .before .before .if3 .left),
+  le-leb _ _ (c .before .if4 .left),
+  le-leb _ _ (c .if5 .left),
+)
 
 pub tables-fit-spec : {M : Type 1} → statement M
 tables-fit-spec =
