@@ -2,7 +2,7 @@
 -- itself, and how large a count can be.
 -- Vocabulary: pair-*, compared-*, agreeing-*.
 -- Assumes nothing.
-use Prim.Native.Nat.{ℕ, _≤_}
+use Prim.Native.Nat.{ℕ, _≤_, _<_}
 use mathlib.Core.Bool.{true, false}
 use mathlib.Core.Path.{_≡_, refl, sym, ap, _∙_}
 use mathlib.Core.List.{List, _++_, List·Memᴰ, List·Memᴰ·head, List·Memᴰ·tail, Memᴰ·append-left, Memᴰ·append-right}
@@ -19,10 +19,12 @@ use Rattle.tag.specs.declared.tags.TagRead.the-variants as read
 use Rattle.tag.specs.declared.pairing.PairAnswer.the-variants.{Handovers, NoChain, Refused}
 use Rattle.tag.specs.Fields.{fieldLimit, tagOf, numbers, tagWith, tagBytes, withinLimit}
 use Rattle.tag.specs.Reading.{readQuestions, readOf, refusalOf}
+use Rattle.tag.specs.TagFile.{tagFile, lookupPart}
 use Rattle.tag.specs.Pairs.{agreeing, compareQuestions, pairQuestions, answerOf, comparedOf, pairOf}
 use Rattle.tag.proofs.Fields.{Within, within-limit, numbers-tagWith}
 use Rattle.tag.proofs.Reading.{valid-reads, questions-valid, questions-refused}
 use Rattle.tag.proofs.Writing.{tagBytes-read}
+use Rattle.tag.proofs.TagFile.{tagFile-lookup}
 
 -- The answer from two byte strings, by their readings.
 module _ (first second : List ℕ) where
@@ -130,6 +132,10 @@ pub pair-tagBytes : (u v : Numbers) → withinLimit u ≡ true → withinLimit v
 pair-tagBytes u v hu hv =
     pair-valid (tagBytes u) (tagBytes v) (tagWith u) (tagWith v) (tagBytes-read u hu) (tagBytes-read v hv)
     ∙ rw (numbers-tagWith u, numbers-tagWith v)
+
+-- So is the answer from two tags that are looked up in a tag file.
+pub pair-tagFile : (f : ℕ → Numbers) (n u v : ℕ) → u < n → v < n → withinLimit (f u) ≡ true → withinLimit (f v) ≡ true → pairOf (lookupPart (tagFile f n) u) (lookupPart (tagFile f n) v) ≡ comparedOf (f u) (f v)
+pair-tagFile f n u v hu hv wu wv = rw (tagFile-lookup f n u hu, tagFile-lookup f n v hv) (pair-tagBytes (f u) (f v) wu wv)
 
 -- A tag that is read is 0 handovers from itself.
 pub pair-itself : (bytes : List ℕ) (t : Tag) → readOf bytes ≡ read.Valid t → pairOf bytes bytes ≡ Handovers 0
