@@ -1,6 +1,6 @@
 -- Laws of the rule on the numbers of two windows, whatever plan they come from: what each of its cases says, that the order
 -- of the two does not count, and how large a count can be.
--- Vocabulary: between-*, equal-*, first-*, outcome-*.
+-- Vocabulary: between-*, equal-*, comesFirst-*, outcome-*.
 -- Assumes nothing.
 use Prim.Native.Nat.{ℕ, _+_, _-_, _≤_, _<_}
 use mathlib.Core.Bool.{true, false, _&&_, _||_}
@@ -12,22 +12,26 @@ use borrow.Author.Tests.{ltb-true, leb-true, eqb-true, eqb-false, lt-ltb, le-ltb
 use Rattle.sequences.proofs.Tests.{truth, cond-cases, lt-or-ge, true-false-absurd, and-left, and-right, and-intro, or-cases, or-left, or-right, eqb-symmetric}
 use Rattle.interval_graph.specs.Numbers.{Numbers, apart, no-chain, equal, comesFirst, between, outcome}
 
--- The four cases of the count for u before v.
+-- The four cases of the count for u before v. "Rising" is rank u < rank v.
 module _ (u v : Numbers) where
+  -- "D + 1 if rank v ≤ last u or last u < rank u"
   pub between-rising-near : u .rank < v .rank → (v .rank ≤ u .last) ⊎ (u .last < u .rank) → between u v ≡ v .depth - u .depth + 1
   unfolding between
   between-rising-near rising near =
       rw (lt-ltb _ _ rising)
       (⊎-elim (λ h. rw (le-leb (v .rank) (u .last) h)) (λ h. rw (or-right (leb (v .rank) (u .last)) (ltb (u .last) (u .rank)) (lt-ltb (u .last) (u .rank) h))) near)
 
+  -- "else D + 2"
   pub between-rising-far : u .rank < v .rank → u .last < v .rank → u .rank ≤ u .last → between u v ≡ v .depth - u .depth + 2
   unfolding between
   between-rising-far rising past own = rw (lt-ltb _ _ rising, lt-leb _ _ past, le-ltb _ _ own)
 
+  -- "D if rank v ≤ last u and last u < rank u"
   pub between-falling-near : v .rank ≤ u .rank → v .rank ≤ u .last → u .last < u .rank → between u v ≡ v .depth - u .depth
   unfolding between
   between-falling-near falling within below = rw (le-ltb _ _ falling, le-leb _ _ within, lt-ltb _ _ below)
 
+  -- "else D + 1"
   pub between-falling-far : v .rank ≤ u .rank → (u .last < v .rank) ⊎ (u .rank ≤ u .last) → between u v ≡ v .depth - u .depth + 1
   unfolding between
   between-falling-far falling far =
@@ -44,15 +48,17 @@ module _ (u v : Numbers) where
       (λ s. cond-cases (λ k. k ≤ v .depth - u .depth + 2) (leb (v .rank) (u .last) || ltb (u .last) (u .rank)) (λ t. omega arith) (λ t. omega arith))
       (λ s. cond-cases (λ k. k ≤ v .depth - u .depth + 2) (leb (v .rank) (u .last) && ltb (u .last) (u .rank)) (λ t. omega arith) (λ t. omega arith))
 
--- Of two windows of equal depth and rank, neither comes first, and the count is 1 either way.
+-- For two windows of equal depth and rank, of which neither comes first, the count is 1 either way.
 pub between-level : (u v : Numbers) → u .depth ≡ v .depth → u .rank ≡ v .rank → between u v ≡ 1
 between-level u v depth rank =
     omega (arith, between-falling-far u v (omega arith) (⊎-elim (λ h. inl (omega arith)) (λ h. inr h) (lt-or-ge (u .last) (u .rank))))
 
+-- Every window's numbers are equal to themselves.
 pub equal-refl : (u : Numbers) → equal u u ≡ true
 unfolding equal
 equal-refl u = rw (eq-eqb (u .plan) _ refl, eq-eqb (u .component) _ refl, eq-eqb (u .depth) _ refl, eq-eqb (u .rank) _ refl, eq-eqb (u .last) _ refl)
 
+-- Whether two windows' numbers are equal does not depend on their order.
 pub equal-symmetric : (u v : Numbers) → equal u v ≡ equal v u
 unfolding equal
 equal-symmetric u v =
@@ -64,47 +70,55 @@ equal-symmetric u v =
       eqb-symmetric (u .last) (v .last),
     )
 
--- Which of two windows comes first: it is no deeper, and the other does not.
+-- What it says that u comes first, or does not.
 module _ (u v : Numbers) where
-  pub first-depth : comesFirst u v ≡ true → u .depth ≤ v .depth
+  -- The window that comes first is no deeper than the other.
+  pub comesFirst-depth : comesFirst u v ≡ true → u .depth ≤ v .depth
   unfolding comesFirst
-  first-depth t =
+  comesFirst-depth t =
       ⊎-elim (λ h. omega (arith, ltb-true (u .depth) (v .depth) h)) (λ h. omega (arith, eqb-true (u .depth) (v .depth) (and-left _ _ h)))
       (or-cases (ltb (u .depth) (v .depth)) _ t)
 
-  pub first-not-depth : comesFirst u v ≡ false → v .depth ≤ u .depth
+  -- One that does not come first is no less deep.
+  pub comesFirst-not-depth : comesFirst u v ≡ false → v .depth ≤ u .depth
   unfolding comesFirst
-  first-not-depth t =
+  comesFirst-not-depth t =
       ⊎-elim (λ h. absurd (true-false-absurd _ (or-left (ltb (u .depth) (v .depth)) _ (lt-ltb _ _ h)) t)) (λ h. h)
       (lt-or-ge (u .depth) (v .depth))
 
-  pub first-not-rank : comesFirst u v ≡ false → u .depth ≡ v .depth → v .rank ≤ u .rank
+  -- One that does not come first has at equal depth no smaller rank.
+  pub comesFirst-not-rank : comesFirst u v ≡ false → u .depth ≡ v .depth → v .rank ≤ u .rank
   unfolding comesFirst
-  first-not-rank t e =
+  comesFirst-not-rank t e =
       ⊎-elim
       (λ h. absurd (true-false-absurd _ (or-right (ltb (u .depth) (v .depth)) _ (and-intro _ _ (eq-eqb _ _ e) (lt-ltb (u .rank) (v .rank) h))) t))
       (λ h. h) (lt-or-ge (u .rank) (v .rank))
 
-  pub first-rank : comesFirst u v ≡ true → u .depth ≡ v .depth → u .rank < v .rank
+  -- The window that comes first has at equal depth the smaller rank.
+  pub comesFirst-rank : comesFirst u v ≡ true → u .depth ≡ v .depth → u .rank < v .rank
   unfolding comesFirst
-  first-rank t e =
+  comesFirst-rank t e =
       ⊎-elim (λ h. absurd (omega (arith, ltb-true (u .depth) (v .depth) h))) (λ h. ltb-true _ _ (and-right (eqb (u .depth) (v .depth)) _ h))
       (or-cases (ltb (u .depth) (v .depth)) _ t)
 
 -- What the rule says of two windows, case by case.
 module _ (u v : Numbers) where
+  -- "Equal tags give 0"
   pub outcome-equal : equal u v ≡ true → outcome u v ≡ apart 0
   unfolding outcome
   outcome-equal t = rw t
 
+  -- "different components no chain"
   pub outcome-components : equal u v ≡ false → (u .component ≡ v .component → ⊥) → outcome u v ≡ no-chain
   unfolding outcome
   outcome-components t other = rw (t, ne-eqb _ _ other)
 
+  -- The count with u as the window that comes first.
   pub outcome-first : equal u v ≡ false → u .component ≡ v .component → comesFirst u v ≡ true → outcome u v ≡ apart (between u v)
   unfolding outcome
   outcome-first t one s = rw (t, eq-eqb _ _ one, s)
 
+  -- The count with v as the window that comes first.
   pub outcome-second : equal u v ≡ false → u .component ≡ v .component → comesFirst u v ≡ false → outcome u v ≡ apart (between v u)
   unfolding outcome
   outcome-second t one s = rw (t, eq-eqb _ _ one, s)
@@ -121,13 +135,13 @@ outcome-symmetric u v =
   where
     both : comesFirst u v ≡ true → comesFirst v u ≡ true → ⊥
     both s s′ =
-        let level : u .depth ≡ v .depth = omega (arith, first-depth u v s, first-depth v u s′) in
-        omega (arith, first-rank u v s level, first-rank v u s′ (sym level))
+        let level : u .depth ≡ v .depth = omega (arith, comesFirst-depth u v s, comesFirst-depth v u s′) in
+        omega (arith, comesFirst-rank u v s level, comesFirst-rank v u s′ (sym level))
 
     neither : comesFirst u v ≡ false → comesFirst v u ≡ false → between v u ≡ between u v
     neither s s′ =
-        let level : u .depth ≡ v .depth = omega (arith, first-not-depth u v s, first-not-depth v u s′) in
-        let ranks : u .rank ≡ v .rank = omega (arith, first-not-rank u v s level, first-not-rank v u s′ (sym level)) in
+        let level : u .depth ≡ v .depth = omega (arith, comesFirst-not-depth u v s, comesFirst-not-depth v u s′) in
+        let ranks : u .rank ≡ v .rank = omega (arith, comesFirst-not-rank u v s level, comesFirst-not-rank v u s′ (sym level)) in
         between-level v u (sym level) (sym ranks) ∙ sym (between-level u v level ranks)
 
     one-component : equal u v ≡ false → equal v u ≡ false → u .component ≡ v .component → outcome u v ≡ outcome v u

@@ -1,5 +1,5 @@
 -- Laws of a tag's numbers and its bytes: both ways round, and what the limit of the fields says.
--- Vocabulary: Within, within-limit, limit-within, length-tagBytes, tagOf-tagBytes, tagBytes-tagOf.
+-- Vocabulary: Within, within-limit, limit-within, length-tagBytes, tagOf-fields, tagOf-tagBytes, tagBytes-tagOf.
 -- Assumes nothing.
 use Prim.Native.Nat.{ℕ, _+_, _*_, _/_, _%_, _≤_, _<_}
 use mathlib.Core.Bool.{true, false}
@@ -23,6 +23,7 @@ pub record Within (n : Numbers) : Type 0 where
   pub rank : n .rank ≤ fieldLimit
   pub last : n .last ≤ fieldLimit
 
+-- The test says so of every field.
 pub within-limit : (n : Numbers) → withinLimit n ≡ true → Within n
 unfolding withinLimit
 within-limit n t =
@@ -37,25 +38,36 @@ within-limit n t =
 
 -- The test, field after field, as it is made.
 module _ (n : Numbers) where
+  -- A component past the limit decides.
   pub component-over : fieldLimit < n .component → false ≡ withinLimit n
   unfolding withinLimit
   component-over over = rw (lt-leb _ _ over)
 
+  -- Else a depth past it does.
   pub depth-over : n .component ≤ fieldLimit → fieldLimit < n .depth → false ≡ withinLimit n
   unfolding withinLimit
   depth-over c over = rw (le-leb _ _ c, lt-leb _ _ over)
 
+  -- Else a rank past it does.
   pub rank-over : n .component ≤ fieldLimit → n .depth ≤ fieldLimit → fieldLimit < n .rank → false ≡ withinLimit n
   unfolding withinLimit
   rank-over c d over = rw (le-leb _ _ c, le-leb _ _ d, lt-leb _ _ over)
 
+  -- Else the rank of the last decides.
   pub last-decides : n .component ≤ fieldLimit → n .depth ≤ fieldLimit → n .rank ≤ fieldLimit → leb (n .last) fieldLimit ≡ withinLimit n
   unfolding withinLimit
   last-decides c d r = rw (le-leb _ _ c, le-leb _ _ d, le-leb _ _ r)
 
+-- Fields within the limit pass the test.
 pub limit-within : (n : Numbers) → Within n → withinLimit n ≡ true
 limit-within n w = sym (last-decides n (w .component) (w .depth) (w .rank)) ∙ le-leb _ _ (w .last)
 
+-- Five numbers that are those of the fields are the tag.
+pub tagOf-fields : (bytes : List ℕ) (plan component depth rank last : ℕ) → plan ≡ field bytes 0 → component ≡ field bytes 1 → depth ≡ field bytes 2 → rank ≡ field bytes 3 → last ≡ field bytes 4 → record { plan = plan; component = component; depth = depth; rank = rank; last = last } ≡ tagOf bytes
+unfolding tagOf
+tagOf-fields bytes plan component depth rank last p c d r l = rw (p, c, d, r, l)
+
+-- A tag has as many bytes as its figure says.
 pub length-tagBytes : (n : Numbers) → length (tagBytes n) ≡ tagLength
 unfolding tagBytes bytes16 tagLength fieldCount
 length-tagBytes n = refl
@@ -68,6 +80,7 @@ tagOf-tagBytes n = rw (whole (n .plan), whole (n .component), whole (n .depth), 
     whole : (x : ℕ) → x % 256 + 256 * (x / 256) ≡ x
     whole x = omega arith
 
+-- The tag with given numbers has those numbers.
 pub numbers-tagWith : (n : Numbers) → numbers (tagWith n) ≡ n
 unfolding numbers tagWith
 numbers-tagWith n = refl

@@ -1,4 +1,5 @@
--- Laws of reading one tag: what each answer shows, and the two questions at the front of others.
+-- Laws of reading one tag: its three answers, what a valid reading shows, and questions 9 and 10 to either input by the reading.
+-- Vocabulary: read-*, ReadsAs, valid-reads, questions-*.
 -- Assumes nothing.
 use Prim.Native.Nat.{ℕ}
 use mathlib.Core.Bool.{Bool, true, false}
@@ -16,15 +17,18 @@ use Rattle.tag.specs.Fields.{tagLength, tagOf, numbers, withinLimit}
 use Rattle.tag.specs.Reading.{readQuestions, readOf, refusalOf}
 
 module _ (bytes : List ℕ) where
+  -- Any other number of bytes is refused by 9.
   pub read-9 : (length bytes ≡ tagLength → ⊥) → Refused (record { number = 9; input = 0; position = 0 }) ≡ readOf bytes
   unfolding readOf readQuestions firstNo question
   read-9 other = rw (ne-eqb (length bytes) tagLength other)
 
   module _ (t : Tag) (long : length bytes ≡ tagLength) (holds : t ≡ tagOf bytes) where
+    -- A field past the limit is refused by 10.
     pub read-10 : withinLimit (numbers t) ≡ false → Refused (record { number = 10; input = 0; position = 0 }) ≡ readOf bytes
     unfolding readOf readQuestions firstNo question
     read-10 over = rw (← holds, eq-eqb (length bytes) tagLength long, over)
 
+    -- Else the tag is valid.
     pub read-valid : withinLimit (numbers t) ≡ true → Valid t ≡ readOf bytes
     unfolding readOf readQuestions firstNo question
     read-valid within = rw (← holds, eq-eqb (length bytes) tagLength long, within)
@@ -46,12 +50,13 @@ refused-tests input s refused accepted r false within e =
     let q : r ≡ record { number = 9; input = 0; position = 0 } = cc in
     rw q
 
--- What is known of bytes that are read.
+-- What is known of bytes that read as a tag.
 pub record ReadsAs (bytes : List ℕ) (t : Tag) : Type 0 where
   pub long : length bytes ≡ tagLength
   pub within : withinLimit (numbers t) ≡ true
   pub holds : t ≡ tagOf bytes
 
+-- A valid reading shows all of that.
 pub valid-reads : (bytes : List ℕ) (t : Tag) → readOf bytes ≡ Valid t → ReadsAs bytes t
 unfolding readOf readQuestions
 valid-reads bytes t e =
@@ -60,12 +65,14 @@ valid-reads bytes t e =
 
 -- The questions to a tag of either input, by its reading.
 module _ {A : Type 0} (input : ℕ) (bytes : List ℕ) (refused : Refusal → A) (accepted : A) where
+  -- A valid tag leaves what comes after.
   pub questions-valid : (t : Tag) → readOf bytes ≡ Valid t → firstNo (readQuestions input bytes) refused accepted ≡ accepted
   unfolding readQuestions firstNo question
   questions-valid t e =
       let r = valid-reads bytes t e in
       rw (eq-eqb (length bytes) tagLength (r .long), rw (r .holds) at (r .within))
 
+  -- A tag that is refused is refused with the input that it is.
   pub questions-refused : (r : Refusal) → readOf bytes ≡ Refused r → firstNo (readQuestions input bytes) refused accepted ≡ refused (refusalOf (Refused r) input)
   unfolding readOf readQuestions
   questions-refused r e =

@@ -1,6 +1,6 @@
 -- Laws of a tag file: what each answer of a lookup shows, and the part at a position, of any tag file and of one that is written
 -- tag after tag.
--- Vocabulary: lookup-*, part-*, tagFile-*.
+-- Vocabulary: lookup-*, found-within, part-*, length-tagFile, tagFile-*.
 -- Assumes nothing.
 use Prim.Native.Nat.{ℕ, zero, suc, _+_, _*_, _/_, _%_, _≤_, _<_}
 use mathlib.Core.Path.{_≡_, refl, sym, _∙_}
@@ -22,14 +22,17 @@ use Rattle.tag.specs.TagFile.{tagFile, tagCount, lookupQuestions, lookup
 use Rattle.tag.proofs.Fields.{length-tagBytes}
 
 module _ (tags : List ℕ) (at : ℕ) where
+  -- A file whose length is no multiple of a tag's is refused by 9.
   pub lookup-9 : (length tags % tagLength ≡ 0 → ⊥) → Refused (record { number = 9; input = 0; position = 0 }) ≡ lookupOf tags at
   unfolding lookupOf lookupQuestions firstNo question
   lookup-9 other = rw (ne-eqb (length tags % tagLength) 0 other)
 
+  -- A position past the last tag is refused by 7.
   pub lookup-7 : length tags % tagLength ≡ 0 → tagCount tags ≤ at → Refused (record { number = 7; input = 0; position = 0 }) ≡ lookupOf tags at
   unfolding lookupOf lookupQuestions firstNo question
   lookup-7 whole past = rw (eq-eqb (length tags % tagLength) 0 whole, le-ltb at (tagCount tags) past)
 
+  -- Else the tag is found.
   pub lookup-found : length tags % tagLength ≡ 0 → at < tagCount tags → Found ≡ lookupOf tags at
   unfolding lookupOf lookupQuestions firstNo question
   lookup-found whole within = rw (eq-eqb (length tags % tagLength) 0 whole, lt-ltb at (tagCount tags) within)
@@ -41,11 +44,12 @@ module _ (tags : List ℕ) (at : ℕ) where
       let within : at < length tags / 10 = ltb-true _ _ (accepts-yes (lookupQuestions tags at) Refused Found (λ r s. let z : _≡_ {A = ℕ} 0 1 = cc in omega arith) e _ (List·Memᴰ·tail (List·Memᴰ·head refl))) in
       omega arith
 
-  -- The part that is handed back, by the answer of the second call.
+  -- The part that is handed back where the tag is found.
   pub part-found : lookupOf tags at ≡ Found → lookupPart tags at ≡ take tagLength (drop (tagLength * at) tags)
   unfolding lookupPart partAt
   part-found e = rw e
 
+  -- The empty part where the lookup is refused.
   pub part-refused : (r : Refusal) → lookupOf tags at ≡ Refused r → lookupPart tags at ≡ []
   unfolding lookupPart partAt
   part-refused r e = rw e
@@ -57,6 +61,7 @@ lookup-position tags n v long within =
     part-found tags v (sym (lookup-found tags v (omega arith) (omega arith)))
 
 module _ (f : ℕ → Numbers) where
+  -- A tag file is as long as its tags.
   pub length-tagFile : (n : ℕ) → length (tagFile f n) ≡ tagLength * n
   unfolding tagFile tagLength fieldCount
   length-tagFile zero = refl
@@ -75,6 +80,7 @@ module _ (f : ℕ → Numbers) where
       (take-at (tagBytes (f n)) rest tagLength (length-tagBytes (f n))))
       (lt-or-ge v n))
 
+  -- Looking a position up in the tag file of n windows hands back the tag of that position.
   pub tagFile-lookup : (n v : ℕ) → v < n → lookupPart (tagFile f n) v ≡ tagBytes (f v)
   tagFile-lookup n v h = lookup-position (tagFile f n) n v (length-tagFile n) h ∙ rw append-nil at (tagFile-part n v [] h)
 

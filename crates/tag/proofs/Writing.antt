@@ -1,10 +1,10 @@
 -- Laws of writing one tag: what each answer shows, that a written tag reads back as the same numbers, and that bytes that read
 -- as a tag are written back the same.
--- Vocabulary: write-*, written-*, read-*.
+-- Vocabulary: write-*, put-front, refused-after, Fits, written-*, tag-front, tagBytes-read, read-*.
 -- Assumes nothing.
 use Prim.Native.Nat.{ℕ, _≤_, _<_}
 use mathlib.Core.Bool.{true, false}
-use mathlib.Core.Path.{_≡_, refl, sym}
+use mathlib.Core.Path.{_≡_, refl, sym, _∙_}
 use mathlib.Core.List.{List, [], _++_, List·Memᴰ, List·Memᴰ·head, List·Memᴰ·tail}
 use native.Mathlib.Omega.{arith}
 use lib.ListN.{length, getD, take}
@@ -27,14 +27,17 @@ use Rattle.tag.proofs.Fields.{length-tagBytes, tagOf-tagBytes, numbers-
 use Rattle.tag.proofs.Reading.{read-valid, valid-reads}
 
 module _ (n : Numbers) (out : List ℕ) where
+  -- A table without room is refused by 8.
   pub write-8 : length out < tagLength → Refused (record { number = 8; input = 0; position = 0 }) ≡ writeOf n out
   unfolding writeOf writeQuestions firstNo question
   write-8 short = rw (lt-leb tagLength (length out) short)
 
+  -- A field past the limit is refused by 10.
   pub write-10 : tagLength ≤ length out → withinLimit n ≡ false → Refused (record { number = 10; input = 0; position = 0 }) ≡ writeOf n out
   unfolding writeOf writeQuestions firstNo question
   write-10 room over = rw (le-leb tagLength (length out) room, over)
 
+  -- Else the tag is written.
   pub write-written : tagLength ≤ length out → withinLimit n ≡ true → Written ≡ writeOf n out
   unfolding writeOf writeQuestions firstNo question
   write-written room within = rw (le-leb tagLength (length out) room, within)
@@ -70,6 +73,7 @@ pub record Fits (n : Numbers) (out : List ℕ) : Type 0 where
   pub room : tagLength ≤ length out
   pub within : withinLimit n ≡ true
 
+-- A tag that is written shows both.
 pub written-fits : (n : Numbers) (out : List ℕ) → writeOf n out ≡ Written → Fits n out
 unfolding writeOf writeQuestions question
 written-fits n out e =
@@ -86,18 +90,28 @@ pub tagBytes-read : (n : Numbers) → withinLimit n ≡ true → readOf (tagByte
 tagBytes-read n within =
     sym (read-valid (tagBytes n) (tagWith n) (length-tagBytes n) (sym (tagOf-tagBytes n)) (rw (numbers-tagWith n) within))
 
+-- The front of a table that a tag was written to is the tag.
+tag-front : (n : Numbers) (out : List ℕ) → take tagLength (overwritten out (tagBytes n)) ≡ tagBytes n
+tag-front n out = rw (length-tagBytes n) at (take-overwritten out (tagBytes n))
+
 -- A tag that is written reads back as the same five numbers.
 pub written-reads-back : (n : Numbers) (out : List ℕ) → writeOf n out ≡ Written → readOf (take tagLength (afterWrite (writeOf n out) n out)) ≡ Valid (tagWith n)
 unfolding afterWrite
 written-reads-back n out e =
-    let front : take tagLength (overwritten out (tagBytes n)) ≡ tagBytes n = rw (length-tagBytes n) at (take-overwritten out (tagBytes n)) in
-    rw (e, front) (tagBytes-read n (written-fits n out e .within))
+    rw (e, tag-front n out) (tagBytes-read n (written-fits n out e .within))
 
--- Bytes that read as a tag are those that are written from its numbers, and the limit does not refuse them.
-pub read-writes-back : (bytes : List ℕ) (t : Tag) → ((i : ℕ) → getD bytes i 0 < 256) → readOf bytes ≡ Valid t → tagBytes (numbers t) ≡ bytes
-read-writes-back bytes t small e =
+-- Bytes that read as a tag are those of its numbers.
+pub read-tagBytes : (bytes : List ℕ) (t : Tag) → ((i : ℕ) → getD bytes i 0 < 256) → readOf bytes ≡ Valid t → tagBytes (numbers t) ≡ bytes
+read-tagBytes bytes t small e =
     let r = valid-reads bytes t e in
     rw (r .holds) (tagBytes-tagOf bytes small (r .long))
 
-pub read-write-accepted : (bytes : List ℕ) (t : Tag) (out : List ℕ) → readOf bytes ≡ Valid t → tagLength ≤ length out → writeOf (numbers t) out ≡ Written
-read-write-accepted bytes t out e room = sym (write-written (numbers t) out room (valid-reads bytes t e .within))
+-- The numbers of a tag that was read are written wherever there is room.
+pub read-accepted : (bytes : List ℕ) (t : Tag) (out : List ℕ) → readOf bytes ≡ Valid t → tagLength ≤ length out → writeOf (numbers t) out ≡ Written
+read-accepted bytes t out e room = sym (write-written (numbers t) out room (valid-reads bytes t e .within))
+
+-- Bytes that read as a tag are written back the same.
+pub read-writes-back : (bytes : List ℕ) (t : Tag) (out : List ℕ) → ((i : ℕ) → getD bytes i 0 < 256) → readOf bytes ≡ Valid t → tagLength ≤ length out → take tagLength (afterWrite (writeOf (numbers t) out) (numbers t) out) ≡ bytes
+unfolding afterWrite
+read-writes-back bytes t out small e room =
+    rw (read-accepted bytes t out e room) (tag-front (numbers t) out ∙ read-tagBytes bytes t small e)

@@ -16,6 +16,7 @@ pub enum PairAnswer {
     Refused(Refusal),
 }
 
+// Questions 11 and 12 are about both tags, and put the second at fault.
 fn refused(number: u8) -> PairAnswer
     ensures { λ r. ⌜ r ≡ PairAnswer.Refused (record { number = number; input = 1; position = 0 }) ⌝ }
 {
@@ -26,6 +27,7 @@ fn refused(number: u8) -> PairAnswer
     })
 }
 
+// Whether two tags agree in all fields.
 fn same(u: Tag, v: Tag) -> bool
     ensures { λ r. ⌜ r ≡ rule.equal (numbers u) (numbers v) ⌝ }
 {
@@ -57,13 +59,14 @@ fn agree(u: Tag, v: Tag) -> bool
     same(u, v)
 }
 
+// Whether u is the tag with smaller depth, or smaller rank at equal depth.
 fn comes_first(u: Tag, v: Tag) -> bool
     ensures { λ r. ⌜ r ≡ comesFirst (numbers u) (numbers v) ⌝ }
 {
     u.depth < v.depth || u.depth == v.depth && u.rank < v.rank
 }
 
-// The count for two windows of one component, u the one that comes first.
+// The count for two windows of one component, u the one that comes first. A depth within the limit keeps it far from overflow.
 fn between(u: Tag, v: Tag) -> u16
     requires { ⌜ u .depth ≤ v .depth ⌝ }
     requires { ⌜ v .depth ≤ fieldLimit ⌝ }
@@ -82,7 +85,7 @@ fn between(u: Tag, v: Tag) -> u16
     levels + 1
 }
 
-// Questions 11 and 12, then the rule.
+// Questions 11 and 12, then the rule. "No chain" is said only once both are answered.
 fn compare(a: Tag, b: Tag) -> PairAnswer
     requires { ⌜ withinLimit (numbers a) ≡ true ⌝ }
     requires { ⌜ withinLimit (numbers b) ≡ true ⌝ }

@@ -19,7 +19,7 @@ pub enum TagRead {
     Refused(Refusal),
 }
 
-// The refusal of a tag that is alone, or the first of two.
+// A "no" to a call's only or first input, about no one window.
 pub(crate) fn refused(number: u8) -> Refusal
     ensures { λ r. ⌜ r ≡ record { number = number; input = 0; position = 0 } ⌝ }
 {
@@ -43,7 +43,7 @@ fn tag_of(bytes: &[u8]) -> Tag
     }
 }
 
-// Question 10.
+// Question 10. The plan number may be any number of two bytes.
 pub(crate) fn within_limit(tag: Tag) -> bool
     ensures { λ r. ⌜ r ≡ withinLimit (numbers tag) ⌝ }
 {
@@ -66,7 +66,7 @@ impl Tag {
     // The greatest number in a field after the plan number.
     pub const FIELD_LIMIT: u16 = 2047;
 
-    // The tag in its bytes. A refusal names the input as the first.
+    // The tag in its bytes. A reading does not know which input it is of, so a refusal names the first: see `refusal`.
     pub fn read(bytes: &[u8]) -> TagRead
         ensures { λ r. ⌜ r ≡ readOf (now (bytes .entry)) ⌝ }
     {

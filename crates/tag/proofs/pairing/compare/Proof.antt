@@ -1,15 +1,25 @@
 -- `tag::pairing::compare` meets its contract: questions 11 and 12 are asked in this order, and then the cases of the rule.
 -- Assumes nothing.
-use mathlib.Core.Path.{sym, ap, _∙_}
+use mathlib.Core.Bool.{true, false}
+use mathlib.Core.Path.{_≡_, sym, ap, _∙_}
 use borrow.Author.Tests.{not-true, not-false}
-use Rattle.interval_graph.proofs.Outcome.{first-depth, first-not-depth}
+use Rattle.interval_graph.specs.Numbers.{equal}
+use Rattle.interval_graph.proofs.Outcome.{comesFirst-depth, comesFirst-not-depth}
 use Rattle.tag.specs.declared.pairing.PairAnswer.the-variants.{Handovers}
 use Rattle.tag.specs.Fields.{numbers}
+use Rattle.tag.specs.Pairs.{agreeing}
 use Rattle.tag.proofs.Fields.{within-limit}
 use Rattle.tag.proofs.Pairs.{compared-11, compared-12, compared-equal, compared-components, compared-first, compared-second}
 use borrow.Author.Needs.{needs}
 use Rattle.tag.proofs.pairing.compare.Statement.{statement}
 use Rattle.tag.proofs.pairing.compare.Tie as tie
+
+-- What is known past question 12, and past the test for equal tags.
+agreed : (c : tie.Else2) → agreeing (numbers (c .before .before .before .before .before .args .a)) (numbers (c .before .before .before .before .before .args .b)) ≡ true
+agreed c = sym (c .before .agree .ensures) ∙ not-false _ (c .if2 .left)
+
+unequal : (c : tie.Else3) → equal (numbers (c .before .before .before .before .before .before .before .args .a)) (numbers (c .before .before .before .before .before .before .before .args .b)) ≡ false
+unequal c = sym (c .before .same .ensures) ∙ c .if3 .left
 
 refused-requires : tie.Need-refused-requires
 refused-requires c κs = search needs
@@ -35,15 +45,13 @@ same-requires c κs = search needs
 returns-3 : tie.Need-returns-3
 unfolding numbers
 returns-3 c = compared-equal _ _ (c .before .before .before .before .if1 .left)
-    (sym (c .before .before .before .agree .ensures) ∙ not-false _ (c .before .before .if2 .left))
-    (sym (c .before .same .ensures) ∙ c .if3 .taken)
+    (agreed (c .before .before)) (sym (c .before .same .ensures) ∙ c .if3 .taken)
 
 returns-4 : tie.Need-returns-4
 unfolding numbers
 returns-4 c = let d = c .before .before .before in
     compared-components _ _ (d .before .before .before .before .if1 .left)
-    (sym (d .before .before .before .agree .ensures) ∙ not-false _ (d .before .before .if2 .left))
-    (sym (d .before .same .ensures) ∙ d .if3 .left) (c .if4 .taken)
+    (agreed (d .before .before)) (unequal d) (c .if4 .taken)
 
 comes-first-requires : tie.Need-comes-first-requires
 comes-first-requires c κs = search needs
@@ -51,7 +59,7 @@ comes-first-requires c κs = search needs
 between-requires : tie.Need-between-requires
 unfolding numbers
 between-requires c κs = let d = c .before .before .before .before .before .before .before .before .before .before .before .before in
-    (first-depth _ _ (sym (c .before .comes-first .ensures) ∙ c .if5 .taken), within-limit _ (d .pre .1) .depth)
+    (comesFirst-depth _ _ (sym (c .before .comes-first .ensures) ∙ c .if5 .taken), within-limit _ (d .pre .1) .depth)
 
 returns-5 : tie.Need-returns-5
 unfolding numbers
@@ -59,13 +67,12 @@ returns-5 c = let e = c .before .before .before in
     let d = e .before .before .before in
     ap Handovers (c .between .ensures)
     ∙ compared-first _ _ (d .before .before .before .before .if1 .left)
-    (sym (d .before .before .before .agree .ensures) ∙ not-false _ (d .before .before .if2 .left))
-    (sym (d .before .same .ensures) ∙ d .if3 .left) (e .if4 .left) (sym (c .before .before .comes-first .ensures) ∙ c .before .if5 .taken)
+    (agreed (d .before .before)) (unequal d) (e .if4 .left) (sym (c .before .before .comes-first .ensures) ∙ c .before .if5 .taken)
 
 between-requires-2 : tie.Need-between-requires-2
 unfolding numbers
 between-requires-2 c κs = let d = c .before .before .before .before .before .before .before .before .before .before .before .before in
-    (first-not-depth _ _ (sym (c .before .comes-first .ensures) ∙ c .if5 .left), within-limit _ (d .pre .0) .depth)
+    (comesFirst-not-depth _ _ (sym (c .before .comes-first .ensures) ∙ c .if5 .left), within-limit _ (d .pre .0) .depth)
 
 returns-6 : tie.Need-returns-6
 unfolding numbers
@@ -73,8 +80,7 @@ returns-6 c = let e = c .before .before .before in
     let d = e .before .before .before in
     ap Handovers (c .between2 .ensures)
     ∙ compared-second _ _ (d .before .before .before .before .if1 .left)
-    (sym (d .before .before .before .agree .ensures) ∙ not-false _ (d .before .before .if2 .left))
-    (sym (d .before .same .ensures) ∙ d .if3 .left) (e .if4 .left) (sym (c .before .before .comes-first .ensures) ∙ c .before .if5 .left)
+    (agreed (d .before .before)) (unequal d) (e .if4 .left) (sym (c .before .before .comes-first .ensures) ∙ c .before .if5 .left)
 
 pub compare-spec : {M : Type 1} → statement M
 compare-spec =
