@@ -1,11 +1,11 @@
 -- Calls that validate a plan and then ask one question more: the answer after each test.
 -- Assumes nothing.
 use Prim.Native.Nat.{ℕ, _≤_, _<_}
-use mathlib.Core.Bool.{Bool, true, false}
+use mathlib.Core.Bool.{Bool, true, false, not}
 use mathlib.Core.Path.{_≡_, sym, _∙_}
 use mathlib.Core.List.{List}
 use lib.Dec.{ltb, leb}
-use borrow.Author.Tests.{le-leb, lt-leb, lt-ltb, le-ltb}
+use borrow.Author.Tests.{le-leb, lt-leb, lt-ltb, le-ltb, not-true, not-false}
 use Rattle.wire.specs.declared.Refusal.{Refusal}
 use Rattle.wire.specs.Question.{Question, question}
 use Rattle.interval_graph.specs.Reach.{reach}
@@ -22,6 +22,13 @@ use Rattle.tree.specs.Tables.{componentCount}
 use Rattle.tree.specs.SingleTable.{roomQuestion, tableOf}
 use Rattle.tree.specs.Build.{tablesFit, buildQuestions, buildOf}
 use Rattle.tree.specs.ReachCall.{reachQuestions, reachOf}
+
+-- What a test that was negated said of the definition that it was answered by.
+pub test-held : (answer fit : Bool) → answer ≡ fit → not answer ≡ false → fit ≡ true
+test-held answer fit same t = sym same ∙ not-false answer t
+
+pub test-lacking : (answer fit : Bool) → answer ≡ fit → not answer ≡ true → fit ≡ false
+test-lacking answer fit same t = sym same ∙ not-true answer t
 
 module _ (file : List ℕ) (answer : Validation) (validated : answer ≡ validateOf file) where
   pub table-refused : (room : ℕ) (refusal : Refusal) → answer ≡ Refused refusal → TableAnswer.Refused refusal ≡ tableOf file room

@@ -1,11 +1,10 @@
 -- `tree::building::build` meets its contract: the validation's refusal, then question 8, then the tables.
 -- Assumes nothing.
 use mathlib.Core.Path.{refl, sym, _∙_}
-use borrow.Author.Tests.{not-true, not-false}
 use Rattle.plan.proofs.Calls.{accepted-numbers, accepted-plan}
 use Rattle.tree.specs.Build.{afterBuild, afterTags}
 use Rattle.tree.proofs.Reading.{windows-fit}
-use Rattle.tree.proofs.Validated.{build-refused, build-short, build-built}
+use Rattle.tree.proofs.Validated.{test-held, test-lacking, build-refused, build-short, build-built}
 use borrow.Author.Needs.{needs}
 use Rattle.tree.proofs.building.build.Statement.{statement}
 use Rattle.tree.proofs.building.build.Tie as tie
@@ -28,7 +27,7 @@ tables-fit-requires c κs = let e = sym (c .before .plan .given .1) ∙ c .befor
 
 returns : tie.Need-returns
 unfolding afterBuild afterTags
-returns c = let short = build-short _ _ (c .before .before .before .before .before .validate .ensures) _ _ (c .before .before .before .plan .given .1) _ _ _ _ _ _ (sym (c .before .tables-fit .ensures) ∙ not-true _ (c .if1 .taken)) in
+returns c = let short = build-short _ _ (c .before .before .before .before .before .validate .ensures) _ _ (c .before .before .before .plan .given .1) _ _ _ _ _ _ (test-lacking _ _ (c .before .tables-fit .ensures) (c .if1 .taken)) in
     (short, (refl, (refl, (refl, (refl, (refl, refl))))))
 
 cast-fill-tables : tie.Need-cast-fill-tables
@@ -37,7 +36,7 @@ cast-fill-tables c = search needs
 fill-tables-requires : tie.Need-fill-tables-requires
 fill-tables-requires c κs = let e = sym (c .before .before .before .before .before .before .before .before .before .plan .given .1) ∙ c .before .before .before .before .before .before .before .before .before .before .before .validate .ensures in
     let numbers = accepted-numbers _ _ _ e in
-    (accepted-plan _ _ _ e, (numbers .1, (numbers .0, sym (c .before .before .before .before .before .before .before .tables-fit .ensures) ∙ not-false _ (c .before .before .before .before .before .before .if1 .left))))
+    (accepted-plan _ _ _ e, (numbers .1, (numbers .0, test-held _ _ (c .before .before .before .before .before .before .before .tables-fit .ensures) (c .before .before .before .before .before .before .if1 .left))))
 
 returns-2 : tie.Need-returns-2
 unfolding afterBuild afterTags
@@ -64,7 +63,7 @@ same-length-6 c = search needs
 returns-3 : tie.Need-returns-3
 unfolding afterBuild afterTags
 returns-3 c = let filled = c .before .before .before .before .before .before .before .before .before .before .before .before .fill-tables .ensures in (
-  build-built _ _ (c .before .before .before .before .before .before .before .before .before .before .before .before .before .before .before .before .before .before .before .before .before .before .before .before .validate .ensures) _ _ (c .before .before .before .before .before .before .before .before .before .before .before .before .before .before .before .before .before .before .before .before .before .before .plan .given .1) _ _ _ _ _ _ _ (sym (c .before .before .before .before .before .before .before .before .before .before .before .before .before .before .before .before .before .before .before .before .tables-fit .ensures) ∙ not-false _ (c .before .before .before .before .before .before .before .before .before .before .before .before .before .before .before .before .before .before .before .if1 .left)) (filled .0),
+  build-built _ _ (c .before .before .before .before .before .before .before .before .before .before .before .before .before .before .before .before .before .before .before .before .before .before .before .before .validate .ensures) _ _ (c .before .before .before .before .before .before .before .before .before .before .before .before .before .before .before .before .before .before .before .before .before .before .plan .given .1) _ _ _ _ _ _ _ (test-held _ _ (c .before .before .before .before .before .before .before .before .before .before .before .before .before .before .before .before .before .before .before .before .tables-fit .ensures) (c .before .before .before .before .before .before .before .before .before .before .before .before .before .before .before .before .before .before .before .if1 .left)) (filled .0),
   filled .1,
 )
 
