@@ -3,6 +3,7 @@
 --   Chains, Climb, Walk, ShortestChain         chains, and that the one written is the earliest shortest
 --   PostOrder, Rank, Size                      post-order, the order of ranks, and ranks from sizes
 --   Level, Rule                                that the rule on two windows' numbers gives the least count
+--   Outcome                                    the rule on any two windows' numbers, in either order
 --   Bounds, Reach, Sameness                    how great the numbers become, and what they say of the whole
 --   Plan12                                     the worked example, by computation
 pub mod Last
@@ -22,4 +23,5 @@ pub mod Rule
 pub mod Bounds
 pub mod Reach
 pub mod Sameness
+pub mod Outcome
 pub mod Plan12

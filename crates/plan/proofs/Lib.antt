@@ -1,8 +1,10 @@
 -- Laws, in the order in which they rest on one another.
 --   Validation  what each answer of `validate` shows
 --   Accepted    what is known of an accepted plan's windows
+--   Calls       calls that validate a file and then ask more
 --   Overlap     overlap by minutes, by ends, and in interval order
 pub mod Validation
 pub mod Accepted
 pub mod Overlap
+pub mod Calls
 pub mod Plan12

@@ -79,3 +79,10 @@ passing-cong p q a (suc m) e =
     let above : passing p (suc a) m ≡ passing q (suc a) m = passing-cong p q (suc a) m (λ k l r. e k (omega arith) (omega arith)) in
     let here : p a ≡ q a = e a (omega arith) (omega arith) in
     rw (above, here)
+
+-- Where nothing in the range passes, the list is empty.
+pub passing-none : (p : ℕ → Bool) (a m : ℕ) → ((k : ℕ) → a ≤ k → k < a + m → p k ≡ false) → passing p a m ≡ []
+unfolding passing
+passing-none p a zero none = refl
+passing-none p a (suc m) none =
+    rw (none a (omega arith) (omega arith)) (passing-none p (suc a) m (λ k l r. none k (omega arith) (omega arith)))

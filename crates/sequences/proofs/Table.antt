@@ -5,9 +5,10 @@ use mathlib.Core.Path.{_≡_, refl, sym, ap, _∙_}
 use mathlib.Core.Logic.{_⊎_, ⊎-elim}
 use mathlib.Core.List.{List, [], _∷_, _++_, append-assoc}
 use native.Mathlib.Omega.{arith}
-use lib.ListN.{length, getD, take, drop, set, length-append, length-drop, List·getD-append}
+use native.Mathlib.Numerals.{add-one}
+use lib.ListN.{length, getD, take, drop, set, length-append, length-drop, length-set, List·getD-append}
 use lib.Seq.{set-at, drop-cons, take-at, getD-at}
-use Rattle.sequences.specs.Table.{table, overwritten}
+use Rattle.sequences.specs.Table.{table, overwritten, Holds}
 use Rattle.sequences.proofs.Tests.{lt-or-ge}
 
 module _ {A : Type 0} where
@@ -55,3 +56,48 @@ module _ {A : Type 0} where
   pub overwritten-table : (f : ℕ → A) (n : ℕ) (l : List A) → overwritten l (table f n) ≡ table f n ++ drop n l
   unfolding overwritten
   overwritten-table f n l = rw length-table
+
+-- A table of n entries that a pass is writing from the front, before the entry v: the entries before it are f's, the rest is
+-- as it was.
+pub record Filling {A : Type 0} (f : ℕ → A) (n : ℕ) (before now : List A) (v : ℕ) : Type 0 where
+  pub within : v ≤ n
+  pub filled : now ≡ table f v ++ drop v before
+  pub long : length now ≡ length before
+
+module _ {A : Type 0} (f : ℕ → A) (n : ℕ) (before now : List A) where
+  -- One store more.
+  pub filling-turn : (v : ℕ) (x : A) → n ≤ length before → v < n → x ≡ f v → Filling f n before now v → Filling f n before (set now v x) (v + 1)
+  filling-turn v x room h same s =
+      record {
+        within = omega arith;
+        filled = rw (s .filled, same, add-one v) (table-turn f before v (omega arith));
+        long = length-set now v x ∙ s .long;
+      }
+
+  -- The entries that stand.
+  pub filling-at : (v k : ℕ) (d : A) → k < v → Filling f n before now v → getD now k d ≡ f k
+  filling-at v k d h s =
+      rw (s .filled) (List·getD-append (table f v) (drop v before) d k (omega (arith, length-table f v)) ∙ getD-table f v k d h)
+
+  -- The pass is done.
+  pub filling-end : (v : ℕ) → n ≤ v → Filling f n before now v → now ≡ overwritten before (table f n)
+  filling-end v done s =
+      let e : v ≡ n = omega (arith, s .within) in
+      (rw e at (s .filled)) ∙ sym (overwritten-table f n before)
+
+pub filling-start : {A : Type 0} (f : ℕ → A) (n : ℕ) (before : List A) → Filling f n before before 0
+unfolding table
+filling-start f n before = record { within = omega arith; filled = refl; long = refl }
+
+-- A table that is overwritten holds what was written.
+pub overwritten-holds : (f : ℕ → ℕ) (n : ℕ) (before now : List ℕ) → n ≤ length before → now ≡ overwritten before (table f n) → Holds now f n
+overwritten-holds f n before now room e =
+    record { long = omega (arith, standing .long); at = λ k h. filling-at f n before now n k 0 h standing }
+  where
+    standing : Filling f n before now n
+    standing =
+        record {
+          within = omega arith;
+          filled = e ∙ overwritten-table f n before;
+          long = rw e (length-overwritten before (table f n) (omega (arith, length-table f n)));
+        }

@@ -76,3 +76,7 @@ pub iff-equal : (s t : Bool) → (s ≡ true → t ≡ true) → (t ≡ true →
 iff-equal true t f g = sym (f refl)
 iff-equal false true f g = g refl
 iff-equal false false f g = refl
+
+-- Whether two numbers are equal does not depend on their order.
+pub eqb-symmetric : (a b : ℕ) → eqb a b ≡ eqb b a
+eqb-symmetric a b = iff-equal (eqb a b) (eqb b a) (λ t. eq-eqb b a (sym (eqb-true a b t))) (λ t. eq-eqb a b (sym (eqb-true b a t)))

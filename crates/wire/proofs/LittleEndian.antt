@@ -1,15 +1,18 @@
 -- Laws of the numbers in bytes: past the end, ranges, and the round trip of a two-byte number both ways.
 -- Assumes nothing.
-use Prim.Native.Nat.{ℕ, _+_, _*_, _/_, _%_, _≤_, _<_}
+use Prim.Native.Nat.{ℕ, suc, _+_, _*_, _/_, _%_, _≤_, _<_}
 use mathlib.Core.Bool.{true, false}
-use mathlib.Core.Path.{_≡_, refl, sym, _∙_}
-use mathlib.Core.List.{List, [], _∷_}
+use mathlib.Core.Path.{_≡_, refl, sym, ap, _∙_}
+use mathlib.Core.List.{List, [], _∷_, _++_}
 use native.Mathlib.Omega.{arith}
-use lib.ListN.{length, getD, set, length-set, List·getD-eq-default}
-use lib.Seq.{getD-set-same, getD-set-other, set-getD, ext-getD}
+use native.Mathlib.Numerals.{add-one}
+use lib.ListN.{length, getD, set, take, drop, length-append, length-set, List·getD-eq-default}
+use lib.Seq.{getD-set-same, getD-set-other, set-getD, drop-cons}
 use lib.Dec.{leb}
 use borrow.Author.Tests.{le-leb, lt-leb}
+use Rattle.sequences.specs.Table.{overwritten}
 use Rattle.sequences.proofs.Tests.{cond-cases}
+use Rattle.sequences.proofs.Table.{length-overwritten}
 use Rattle.wire.specs.LittleEndian.{le16, le32, bytes16, put16}
 
 -- A number that begins past the end is 0.
@@ -76,3 +79,28 @@ put16-le16 l at bytes =
     let low : (getD l at 0 + 256 * getD l (at + 1) 0) % 256 ≡ getD l at 0 = omega (arith, bytes at) in
     let high : (getD l at 0 + 256 * getD l (at + 1) 0) / 256 ≡ getD l (at + 1) 0 = omega (arith, bytes at) in
     rw (low, high, set-getD l at 0, set-getD l (at + 1) 0) (cond-cases (λ m. m ≡ l) (leb (at + 2) (length l)) (λ t. refl) (λ t. refl))
+
+-- The two bytes of a number that is read are those that stand there.
+pub bytes16-at : (l : List ℕ) (at : ℕ) → ((i : ℕ) → getD l i 0 < 256) → at + 2 ≤ length l → bytes16 (le16 l at) ≡ take 2 (drop at l)
+unfolding le16 bytes16
+bytes16-at l at bytes h =
+    let low : (getD l at 0 + 256 * getD l (at + 1) 0) % 256 ≡ getD l at 0 = omega (arith, bytes at) in
+    let high : (getD l at 0 + 256 * getD l (at + 1) 0) / 256 ≡ getD l (at + 1) 0 = omega (arith, bytes at) in
+    let first : drop at l ≡ getD l at 0 ∷ drop (suc at) l = drop-cons l at 0 (omega arith) in
+    let second : drop (suc at) l ≡ getD l (suc at) 0 ∷ drop (suc (suc at)) l = drop-cons l (suc at) 0 (omega arith) in
+    rw (low, high, first, second, add-one at)
+
+set-two : (p : List ℕ) (a b y z : ℕ) (r : List ℕ) → set (set (p ++ (a ∷ b ∷ r)) (length p) y) (suc (length p)) z ≡ (p ++ (y ∷ z ∷ [])) ++ r
+set-two [] a b y z r = refl
+set-two (x ∷ p) a b y z r = ap (λ (l : List ℕ). x ∷ l) (set-two p a b y z r)
+
+-- A number that is written right behind what was written before: the turn of a pass that fills a table with numbers.
+pub put16-overwritten : (l new : List ℕ) (x : ℕ) → length new + 2 ≤ length l → put16 (overwritten l new) (length new) x ≡ overwritten l (new ++ bytes16 x)
+unfolding overwritten bytes16
+put16-overwritten l new x h =
+    let at : ℕ = length new in
+    let first : drop at l ≡ getD l at 0 ∷ drop (suc at) l = drop-cons l at 0 (omega arith) in
+    let second : drop (suc at) l ≡ getD l (suc at) 0 ∷ drop (suc (suc at)) l = drop-cons l (suc at) 0 (omega arith) in
+    let behind : length (new ++ (x % 256 ∷ x / 256 ∷ [])) ≡ suc (suc at) = omega (arith, length-append new (x % 256 ∷ x / 256 ∷ [])) in
+    put16-fits (overwritten l new) at x (omega (arith, length-overwritten l new (omega arith)))
+    ∙ rw (behind, first, second, add-one at) (set-two new _ _ (x % 256) (x / 256) _)

@@ -1,0 +1,67 @@
+-- Paper 01's plan 12 as a tag file: its bytes, the paper's nine answers from two tags that are looked up, and a refusal by each
+-- of 9 to 12 come out of the definitions by computation.
+-- Assumes nothing.
+use Prim.Native.Nat.{ℕ}
+use mathlib.Core.Path.{_≡_, refl}
+use mathlib.Core.List.{List, [], _∷_, _++_}
+use Rattle.interval_graph.specs.Numbers.{numbersOf}
+use Rattle.interval_graph.proofs.Plan12.{definitions, overlaps}
+use Rattle.wire.specs.LittleEndian.{le16, bytes16}
+use Rattle.wire.specs.Question.{question, firstNo}
+use Rattle.tag.specs.declared.pairing.PairAnswer.{PairAnswer}
+use Rattle.tag.specs.declared.pairing.PairAnswer.the-variants.{Handovers, NoChain, Refused}
+use Rattle.tag.specs.Fields.{fieldCount, tagLength, fieldLimit, field, tagOf, numbers, tagBytes, withinLimit}
+use Rattle.tag.specs.Reading.{readQuestions}
+use Rattle.tag.specs.TagFile.{tagFile, tagCount, lookupQuestions, lookupOf, partAt, lookupPart}
+use Rattle.tag.specs.Pairs.{agreeing, compareQuestions, pairQuestions, answerOf, pairOf}
+
+-- What a computation on tags opens.
+unfoldable pub meaning : Unit {0}
+unfolding definitions le16 bytes16 question firstNo fieldCount tagLength fieldLimit field tagOf numbers tagBytes withinLimit readQuestions tagFile tagCount lookupQuestions lookupOf partAt lookupPart agreeing compareQuestions pairQuestions answerOf pairOf
+meaning = tt
+
+-- The tag file of the plan.
+unfoldable pub tags : List ℕ
+tags = tagFile (numbersOf 7 overlaps 12) 7
+
+-- Its bytes: plan number, and then the component, depth, rank and rank of the last of each line of the listing.
+pub plan-12-tags : tags
+    ≡ (12 ∷ 0 ∷ 0 ∷ 0 ∷ 0 ∷ 0 ∷ 5 ∷ 0 ∷ 4 ∷ 0 ∷ [])
+    ++ ((12 ∷ 0 ∷ 0 ∷ 0 ∷ 1 ∷ 0 ∷ 0 ∷ 0 ∷ 3 ∷ 0 ∷ [])
+    ++ ((12 ∷ 0 ∷ 0 ∷ 0 ∷ 1 ∷ 0 ∷ 3 ∷ 0 ∷ 2 ∷ 0 ∷ [])
+    ++ ((12 ∷ 0 ∷ 0 ∷ 0 ∷ 1 ∷ 0 ∷ 4 ∷ 0 ∷ 4 ∷ 0 ∷ [])
+    ++ ((12 ∷ 0 ∷ 0 ∷ 0 ∷ 2 ∷ 0 ∷ 2 ∷ 0 ∷ 1 ∷ 0 ∷ [])
+    ++ ((12 ∷ 0 ∷ 0 ∷ 0 ∷ 3 ∷ 0 ∷ 1 ∷ 0 ∷ 1 ∷ 0 ∷ [])
+    ++ (12 ∷ 0 ∷ 1 ∷ 0 ∷ 0 ∷ 0 ∷ 0 ∷ 0 ∷ 0 ∷ 0 ∷ []))))))
+unfolding meaning tags
+plan-12-tags = refl
+
+-- The answer from the two tags that are looked up at two positions.
+unfoldable pub answer : ℕ → ℕ → PairAnswer
+answer u v = pairOf (lookupPart tags u) (lookupPart tags v)
+
+-- The paper's nine answers.
+pub plan-12-answers : answer 0 5 ∷ answer 1 5 ∷ answer 3 5 ∷ answer 2 3 ∷ answer 1 3 ∷ answer 3 4 ∷ answer 4 5 ∷ answer 5 6 ∷ answer 6 6 ∷ []
+    ≡ Handovers 3 ∷ Handovers 3 ∷ Handovers 3 ∷ Handovers 1 ∷ Handovers 2 ∷ Handovers 2 ∷ Handovers 1 ∷ NoChain ∷ Handovers 0 ∷ []
+unfolding meaning tags answer
+plan-12-answers = refl
+
+-- The tag with these fields.
+unfoldable pub tag : ℕ → ℕ → ℕ → ℕ → ℕ → List ℕ
+tag plan component depth rank last =
+    tagBytes (record { plan = plan; component = component; depth = depth; rank = rank; last = last })
+
+-- No tag at the position past the last, before a field of 2,048; a field of 2,048 alone; another plan, before one rank at two
+-- depths; and that alone.
+pub refusals : pairOf (lookupPart tags 7) (tag 12 2048 0 0 0)
+    ∷ pairOf (tag 12 0 0 5 4) (tag 12 0 0 0 2048)
+    ∷ pairOf (tag 12 0 0 5 4) (tag 13 0 1 5 4)
+    ∷ pairOf (tag 12 0 0 5 4) (tag 12 0 1 5 4)
+    ∷ []
+    ≡ Refused (record { number = 9; input = 0; position = 0 })
+    ∷ Refused (record { number = 10; input = 1; position = 0 })
+    ∷ Refused (record { number = 11; input = 1; position = 0 })
+    ∷ Refused (record { number = 12; input = 1; position = 0 })
+    ∷ []
+unfolding meaning tags tag
+refusals = refl

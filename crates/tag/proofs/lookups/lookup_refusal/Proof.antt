@@ -1,0 +1,32 @@
+-- `tag::lookups::lookup_refusal` meets its contract: the file's length is asked for, then the position.
+-- Assumes nothing.
+use mathlib.Core.Path.{ap, _∙_}
+use Rattle.tag.specs.declared.lookups.LookupAnswer.the-variants.{Refused}
+use Rattle.tag.specs.Fields.{tagLength, fieldCount}
+use Rattle.tag.specs.TagFile.{tagCount}
+use Rattle.tag.proofs.TagFile.{lookup-9, lookup-7, lookup-found}
+use borrow.Author.Needs.{needs}
+use Rattle.tag.proofs.lookups.lookup_refusal.Statement.{statement}
+use Rattle.tag.proofs.lookups.lookup_refusal.Tie as tie
+
+refused-requires : tie.Need-refused-requires
+refused-requires c κs = search needs
+
+returns : tie.Need-returns
+unfolding tagLength fieldCount
+returns c = ap Refused (c .refused .ensures) ∙ lookup-9 _ _ (c .before .if1 .taken)
+
+refused-requires-2 : tie.Need-refused-requires-2
+refused-requires-2 c κs = search needs
+
+returns-2 : tie.Need-returns-2
+unfolding tagLength fieldCount tagCount
+returns-2 c = ap Refused (c .refused2 .ensures) ∙ lookup-7 _ _ (c .before .before .if1 .left) (c .before .if2 .taken)
+
+returns-3 : tie.Need-returns-3
+unfolding tagLength fieldCount tagCount
+returns-3 c = lookup-found _ _ (c .before .if1 .left) (c .if2 .left)
+
+pub lookup-refusal-spec : {M : Type 1} → statement M
+lookup-refusal-spec =
+    tie.close (tie.spec refused-requires returns refused-requires-2 returns-2 returns-3)

@@ -1,0 +1,42 @@
+-- Paper 01: "From two tags the answer is one of: a number of handovers; no chain; a refusal." The rule itself, on numbers, is
+-- `outcome` of interval_graph.
+-- Vocabulary: agreeing, compareQuestions, pairQuestions, answerOf, comparedOf, pairOf.
+use Prim.Native.Nat.{ℕ}
+use mathlib.Core.Bool.{Bool, true, cond, _&&_}
+use mathlib.Core.List.{List, [], _∷_, _++_}
+use lib.Dec.{eqb}
+use Rattle.interval_graph.specs.Numbers.{Numbers, Outcome, apart, no-chain, equal, outcome}
+use Rattle.wire.specs.Question.{Question, question, firstNo}
+use Rattle.tag.specs.declared.pairing.PairAnswer.{PairAnswer}
+use Rattle.tag.specs.declared.pairing.PairAnswer.the-variants.{Handovers, NoChain, Refused}
+use Rattle.tag.specs.Fields.{tagOf, numbers}
+use Rattle.tag.specs.Reading.{readQuestions}
+
+-- "two tags of equal component and equal rank agree in all fields"
+unfoldable pub agreeing : Numbers → Numbers → Bool
+agreeing u v = cond (eqb (u .component) (v .component) && eqb (u .rank) (v .rank)) (equal u v) true
+
+-- "The input is 1 … for 11 and 12":
+-- "11. Have both tags one plan number?
+--  12. Do two tags of equal component and equal rank agree in all fields?"
+unfoldable pub compareQuestions : Numbers → Numbers → List Question
+compareQuestions u v = question 11 1 0 (eqb (u .plan) (v .plan)) ∷ question 12 1 0 (agreeing u v) ∷ []
+
+-- "With two … tags, … 9 and 10, are gone through for the first and then for the second."
+unfoldable pub pairQuestions : List ℕ → List ℕ → List Question
+pairQuestions first second =
+    readQuestions 0 first ++ (readQuestions 1 second ++ compareQuestions (numbers (tagOf first)) (numbers (tagOf second)))
+
+-- What the rule says, as an answer.
+unfoldable pub answerOf : Outcome → PairAnswer
+answerOf (apart count) = Handovers count
+answerOf no-chain = NoChain
+
+-- The answer from the numbers of two tags that are both read.
+unfoldable pub comparedOf : Numbers → Numbers → PairAnswer
+comparedOf u v = firstNo (compareQuestions u v) Refused (answerOf (outcome u v))
+
+-- The answer for every two byte strings: the first "no", or what the rule says.
+unfoldable pub pairOf : List ℕ → List ℕ → PairAnswer
+pairOf first second =
+    firstNo (pairQuestions first second) Refused (answerOf (outcome (numbers (tagOf first)) (numbers (tagOf second))))

@@ -1,0 +1,26 @@
+-- Paper 01: "Writing one tag takes the five numbers and fills the first ten bytes of a lent table; it is put to 8 and 10."
+-- Vocabulary: writeQuestions, writeOf, afterWrite.
+use mathlib.Core.List.{List, [], _∷_}
+use Prim.Native.Nat.{ℕ}
+use lib.ListN.{length}
+use lib.Dec.{leb}
+use Rattle.sequences.specs.Table.{overwritten}
+use Rattle.interval_graph.specs.Numbers.{Numbers}
+use Rattle.wire.specs.Question.{Question, question, firstNo}
+use Rattle.tag.specs.declared.writer.WriteAnswer.{WriteAnswer}
+use Rattle.tag.specs.declared.writer.WriteAnswer.the-variants.{Written, Refused}
+use Rattle.tag.specs.Fields.{tagLength, tagBytes, withinLimit}
+
+-- "8. Does each table hold what is to be written …?
+--  10. Is each field after the plan number at most 2,047?"
+unfoldable pub writeQuestions : Numbers → List ℕ → List Question
+writeQuestions n out = question 8 0 0 (leb tagLength (length out)) ∷ question 10 0 0 (withinLimit n) ∷ []
+
+-- The answer for every five numbers and every table.
+unfoldable pub writeOf : Numbers → List ℕ → WriteAnswer
+writeOf n out = firstNo (writeQuestions n out) Refused Written
+
+-- The table afterwards: "what lies past the written entries stays", and a refusal alters nothing.
+unfoldable pub afterWrite : WriteAnswer → Numbers → List ℕ → List ℕ
+afterWrite Written n out = overwritten out (tagBytes n)
+afterWrite (Refused r) n out = out

@@ -1,0 +1,114 @@
+-- What the offsets and ends of an accepted plan, as tables, say of overlap; and what the two searches in them find: parents and
+-- lasts.
+-- Vocabulary: earlier-overlaps, offsets-do-not-fall, parent-found, Fingers, last-found.
+-- Assumes nothing.
+use Prim.Native.Nat.{ℕ, _+_, _≤_, _<_}
+use mathlib.Core.Bool.{Bool, true, false}
+use mathlib.Core.Path.{_≡_, refl, sym, ap, _∙_}
+use mathlib.Core.Logic.{⊎-elim}
+use mathlib.Core.List.{List}
+use native.Mathlib.Omega.{arith}
+use native.Mathlib.Nat.{le-antisymm}
+use lib.ListN.{length, getD, set}
+use lib.Dec.{ltb}
+use borrow.Author.Tests.{lt-ltb, le-ltb, ltb-true}
+use Rattle.sequences.proofs.Tests.{lt-or-ge, true-false-absurd}
+use Rattle.sequences.proofs.Search.{least-unique}
+use Rattle.sequences.proofs.Table.{Filling, filling-start, filling-turn}
+use Rattle.interval_graph.specs.Order.{IntervalOrder}
+use Rattle.interval_graph.specs.Tree.{last, parent}
+use Rattle.interval_graph.proofs.Last.{last-cases, last-ge, overlap-last}
+use Rattle.plan.specs.File.{windowCount, windowAt, endOf}
+use Rattle.plan.specs.Overlap.{overlaps}
+use Rattle.plan.proofs.Accepted.{accepted-sound, offsets-sorted}
+use Rattle.plan.proofs.Overlap.{overlaps-end, interval-order}
+use Rattle.tree.specs.Tables.{offsetAt, endAt, parentOf, lastOf}
+use Rattle.tree.specs.Passes.{Prepared, FirstPast, Sorted, LastBefore}
+
+-- No window before `finger` overlaps one from v on.
+abbrev Behind : List ℕ → ℕ → ℕ → ℕ → Type 0
+Behind file windows finger v = (u w : ℕ) → u < finger → u < w → v ≤ w → w < windows → overlaps file u w ≡ false
+
+-- The two fingers of the parent table before a position: the parent table is filled, and nothing behind the left finger overlaps
+-- what is to come.
+pub record Fingers (file : List ℕ) (windows : ℕ) (parents₀ parents : List ℕ) (finger position : ℕ) : Type 0 where
+  pub left : finger ≤ position
+  pub behind : Behind file windows finger position
+  pub filling : Filling (parentOf file) windows parents₀ parents position
+
+module _ {file : List ℕ} {windows : ℕ} {offsets ends : List ℕ} (p : Prepared file windows offsets ends) where
+  -- For u before v: they overlap exactly if the offset of v lies before the end of u.
+  earlier-overlaps : (u v : ℕ) → u < v → v < windows → overlaps file u v ≡ ltb (getD offsets v 0) (getD ends u 0)
+  unfolding offsetAt endAt
+  earlier-overlaps u v h within =
+      rw (p .offsets-held .at v within, p .ends-held .at u (omega arith))
+      (overlaps-end file (p .accepted) u v h (omega (arith, p .counted)))
+
+  ends-past : (u v : ℕ) → u < v → v < windows → getD offsets v 0 < getD ends u 0 → overlaps file u v ≡ true
+  ends-past u v h within g = earlier-overlaps u v h within ∙ lt-ltb _ _ g
+
+  ends-before : (u v : ℕ) → u < v → v < windows → getD ends u 0 ≤ getD offsets v 0 → overlaps file u v ≡ false
+  ends-before u v h within g = earlier-overlaps u v h within ∙ le-ltb _ _ g
+
+  pub offsets-do-not-fall : Sorted offsets windows
+  unfolding offsetAt
+  offsets-do-not-fall i j le within =
+      rw (p .offsets-held .at j within, p .offsets-held .at i (omega arith))
+      (offsets-sorted file (accepted-sound file (p .accepted)) i j le (omega (arith, p .counted)))
+
+  pub windows-few : windows ≤ 2048
+  windows-few = omega (arith, p .counted, accepted-sound file (p .accepted) .few)
+
+  module _ (finger v r : ℕ) (within : v < windows) (behind : Behind file windows finger v) (found : FirstPast ends (getD offsets v 0) finger v r) where
+    -- What the search passes over overlaps nothing from v on.
+    behind-turn : Behind file windows r v
+    behind-turn u w h uw vw wn =
+        ⊎-elim (λ g. behind u w g uw vw wn)
+        (λ g. ends-before u w uw wn (omega (arith, found .before u g h, offsets-do-not-fall v w vw wn)))
+        (lt-or-ge u finger)
+
+    -- What it finds is the parent.
+    parent-found : r ≡ parentOf file v
+    unfolding parentOf parent
+    parent-found =
+        sym
+        (least-unique (λ u. overlaps file u v) v r (found .high) (λ h. ends-past r v h within (found .past h))
+        (λ j h. behind-turn j v h (omega (arith, found .high)) (omega arith) within))
+
+  module _ (parents₀ : List ℕ) where
+    pub fingers-turn : (parents : List ℕ) (finger v r : ℕ) → windows ≤ length parents₀ → v < windows → FirstPast ends (getD offsets v 0) finger v r → Fingers file windows parents₀ parents finger v → Fingers file windows parents₀ (set parents v r) r (v + 1)
+    fingers-turn parents finger v r room within found s =
+        record {
+          left = omega (arith, found .high);
+          behind = λ u w h uw vw wn. behind-turn finger v r within (s .behind) found u w h uw (omega arith) wn;
+          filling = filling-turn (parentOf file) windows parents₀ parents v r room within (parent-found finger v r within (s .behind) found) (s .filling);
+        }
+
+  -- What the search for the last finds is the last.
+  pub last-found : (u r : ℕ) → u < windows → LastBefore offsets (getD ends u 0) u windows r → r ≡ lastOf file u
+  unfolding lastOf
+  last-found u r within found = rw (← p .counted) (sym (le-antisymm upper lower))
+    where
+      order : IntervalOrder windows (overlaps file)
+      order = rw (p .counted) (interval-order file (p .accepted))
+
+      upper : last windows (overlaps file) u ≤ r
+      upper =
+          ⊎-elim
+          (λ c. ⊎-elim (λ h. absurd (true-false-absurd _ (c .2) (ends-before u (last windows (overlaps file) u) (c .0) (c .1) (found .past _ h (c .1))))) (λ h. h) (lt-or-ge r (last windows (overlaps file) u)))
+          (λ e. omega (arith, e, found .low))
+          (last-cases windows (overlaps file) u)
+
+      lower : r ≤ last windows (overlaps file) u
+      lower =
+          ⊎-elim (λ h. overlap-last order u r h (found .high) (ends-past u r h (found .high) (found .before h)))
+          (λ h. omega (arith, last-ge order u))
+          (lt-or-ge u r)
+
+pub fingers-start : (file : List ℕ) (windows : ℕ) (parents₀ : List ℕ) → Fingers file windows parents₀ parents₀ 0 0
+fingers-start file windows parents₀ =
+    record {
+      left = omega arith;
+      behind = λ u w h uw vw wn. absurd (omega arith);
+      filling = filling-start (parentOf file) windows parents₀;
+    }

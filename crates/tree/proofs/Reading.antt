@@ -1,0 +1,48 @@
+-- The pass that reads the windows: where they lie in the file of an accepted plan, and that their ends fit.
+-- Assumes nothing.
+use Prim.Native.Nat.{ℕ, _+_, _*_, _≤_, _<_}
+use mathlib.Core.Path.{_≡_, ap}
+use mathlib.Core.List.{List}
+use native.Mathlib.Omega.{arith}
+use lib.ListN.{length}
+use Rattle.sequences.specs.Table.{table, overwritten}
+use Rattle.sequences.proofs.Table.{overwritten-holds}
+use Rattle.plan.specs.declared.windows.Window.{Window}
+use Rattle.plan.specs.File.{headerLength, windowLength, fileLength, windowCount, windowAt, endOf}
+use Rattle.plan.specs.Validation.{AcceptedPlan}
+use Rattle.tree.specs.Tables.{offsetAt, endAt}
+use Rattle.tree.specs.Passes.{Prepared}
+use Rattle.plan.proofs.Accepted.{Sound, accepted-sound}
+
+-- The eight bytes of a window of an accepted plan lie in its file, and its end fits.
+module _ (file : List ℕ) (ok : AcceptedPlan file) (v : ℕ) (h : v < windowCount file) where
+  pub window-within : 4 + 8 * v + 8 ≤ length file
+  unfolding fileLength headerLength windowLength
+  window-within = omega (arith, accepted-sound file ok .whole)
+
+  pub end-early : (w : Window) → w ≡ windowAt file v → w .offset + w .length ≤ 10000000
+  unfolding endOf
+  end-early w same = rw same (accepted-sound file ok .early v h)
+
+-- The entries that the pass stores.
+pub offset-read : (file : List ℕ) (v : ℕ) (w : Window) → w ≡ windowAt file v → w .offset ≡ offsetAt file v
+unfolding offsetAt
+offset-read file v w same = ap (λ (x : Window). x .offset) same
+
+pub end-read : (file : List ℕ) (v : ℕ) (w : Window) → w ≡ windowAt file v → w .offset + w .length ≡ endAt file v
+unfolding endAt endOf
+end-read file v w same = ap (λ (x : Window). x .offset + x .length) same
+
+-- An accepted plan has at most 2,048 windows, so tables of that many entries hold them.
+pub windows-fit : (file : List ℕ) (windows : ℕ) → AcceptedPlan file → windows ≡ windowCount file → windows ≤ 2048
+windows-fit file windows ok counted = omega (arith, accepted-sound file ok .few)
+
+-- The two tables that the pass leaves are what the passes after it are handed.
+pub prepared-read : (file : List ℕ) (windows : ℕ) (offsets₀ ends₀ offsets ends : List ℕ) → AcceptedPlan file → windows ≡ windowCount file → windows ≤ length offsets₀ → windows ≤ length ends₀ → offsets ≡ overwritten offsets₀ (table (offsetAt file) windows) → ends ≡ overwritten ends₀ (table (endAt file) windows) → Prepared file windows offsets ends
+prepared-read file windows offsets₀ ends₀ offsets ends ok counted o e f g =
+    record {
+      accepted = ok;
+      counted = counted;
+      offsets-held = overwritten-holds (offsetAt file) windows offsets₀ offsets o f;
+      ends-held = overwritten-holds (endAt file) windows ends₀ ends e g;
+    }

@@ -1,0 +1,58 @@
+-- `tree::parents::parent_table` meets its contract: the validation's refusal, then question 8, then the table.
+-- Assumes nothing.
+use mathlib.Core.Path.{refl, sym, _∙_}
+use Rattle.tree.specs.SingleTable.{afterTable}
+use Rattle.plan.proofs.Calls.{accepted-numbers, accepted-plan}
+use Rattle.tree.proofs.Validated.{table-refused, table-short, table-filled}
+use borrow.Author.Needs.{needs}
+use Rattle.tree.proofs.parents.parent_table.Statement.{statement}
+use Rattle.tree.proofs.parents.parent_table.Tie as tie
+
+validate-requires : tie.Need-validate-requires
+validate-requires c κs = search needs
+
+enum-known-windows : tie.Need-enum-known-windows
+enum-known-windows c = search needs
+
+enum-known-refusal : tie.Need-enum-known-refusal
+enum-known-refusal c = search needs
+
+returns : tie.Need-returns
+unfolding afterTable
+returns c = (table-refused _ _ (c .before .before .before .validate .ensures) _ _ (c .before .refusal .given .1), refl)
+
+cast-if1 : tie.Need-cast-if1
+cast-if1 c = search needs
+
+returns-2 : tie.Need-returns-2
+unfolding afterTable
+returns-2 c = (table-short _ _ (c .before .before .before .before .validate .ensures) _ _ (c .before .before .windows .given .1) _ (c .if1 .taken), refl)
+
+cast-fill-parents : tie.Need-cast-fill-parents
+cast-fill-parents c = search needs
+
+fill-parents-requires : tie.Need-fill-parents-requires
+fill-parents-requires c κs = let e = sym (c .before .before .before .windows .given .1) ∙ c .before .before .before .before .before .validate .ensures in
+    (accepted-plan _ _ _ e, (accepted-numbers _ _ _ e .1, c .before .if1 .left))
+
+same-length : tie.Need-same-length
+same-length c = search needs
+
+returns-3 : tie.Need-returns-3
+unfolding afterTable
+returns-3 c = (table-filled _ _ (c .before .before .before .before .before .before .before .before .validate .ensures) _ _ (c .before .before .before .before .before .before .windows .given .1) _ (c .before .before .before .before .if1 .left), c .before .before .fill-parents .ensures)
+
+pub parent-table-spec : {M : Type 1} → statement M
+parent-table-spec =
+    tie.close
+    (tie.spec
+    validate-requires
+    enum-known-windows
+    enum-known-refusal
+    returns
+    cast-if1
+    returns-2
+    cast-fill-parents
+    fill-parents-requires
+    same-length
+    returns-3)

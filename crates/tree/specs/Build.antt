@@ -1,0 +1,46 @@
+-- Paper 01, "Calls on a plan": "Build writes five tables of two-byte numbers (parent, component, depth, rank, rank of the last)
+-- and the tag file."
+-- Vocabulary: tablesFit, buildQuestions, buildOf, afterBuild, afterTags.
+use Prim.Native.Nat.{ℕ, _*_}
+use mathlib.Core.Bool.{Bool, _&&_}
+use mathlib.Core.List.{List, [], _∷_, _++_}
+use lib.Dec.{leb}
+use Rattle.sequences.specs.Table.{table, overwritten}
+use Rattle.interval_graph.specs.Numbers.{Numbers}
+use Rattle.wire.specs.Question.{Question, question, firstNo}
+use Rattle.tag.specs.Fields.{tagLength}
+use Rattle.tag.specs.TagFile.{tagFile}
+use Rattle.plan.specs.File.{planNumber, windowCount}
+use Rattle.plan.specs.Validation.{planQuestions}
+use Rattle.tree.specs.declared.answers.BuildAnswer.{BuildAnswer}
+use Rattle.tree.specs.declared.answers.BuildAnswer.the-variants.{Built, Refused}
+use Rattle.tree.specs.Tables.{componentCount}
+
+-- "8. Does each table hold what is to be written (n entries; 10 × n bytes …)?" by how many entries each of the five tables holds
+-- and how many bytes the tag file.
+unfoldable pub tablesFit : (windows parents components depths ranks lastRanks tags : ℕ) → Bool
+tablesFit windows parents components depths ranks lastRanks tags =
+    leb windows parents
+    && (leb windows components
+    && (leb windows depths
+    && (leb windows ranks
+    && (leb windows lastRanks
+    && leb (tagLength * windows) tags))))
+
+module _ (file : List ℕ) (parents components depths ranks lastRanks tags : ℕ) where
+  unfoldable pub buildQuestions : List Question
+  buildQuestions =
+      planQuestions 0 file ++ (question 8 0 0 (tablesFit (windowCount file) parents components depths ranks lastRanks tags) ∷ [])
+
+  unfoldable pub buildOf : BuildAnswer
+  buildOf = firstNo buildQuestions Refused (Built (planNumber file) (windowCount file) (componentCount file))
+
+-- A table afterwards: "what lies past the written entries stays", and a refusal alters nothing.
+unfoldable pub afterBuild : BuildAnswer → (ℕ → ℕ) → List ℕ → List ℕ
+afterBuild (Built plan windows components) f before = overwritten before (table f windows)
+afterBuild (Refused refusal) f before = before
+
+-- The tag file afterwards.
+unfoldable pub afterTags : BuildAnswer → (ℕ → Numbers) → List ℕ → List ℕ
+afterTags (Built plan windows components) f before = overwritten before (tagFile f windows)
+afterTags (Refused refusal) f before = before

@@ -1,0 +1,51 @@
+-- What the passes are handed and what the searches inside them find. Nothing here has to be believed: no public promise
+-- cites it.
+-- Vocabulary: Prepared, Parented, Numbered, FirstPast, Sorted, LastBefore.
+use Prim.Native.Nat.{ℕ, _≤_, _<_}
+use mathlib.Core.Path.{_≡_}
+use mathlib.Core.List.{List}
+use lib.ListN.{getD}
+use Rattle.sequences.specs.Table.{Holds}
+use Rattle.plan.specs.File.{windowCount}
+use Rattle.plan.specs.Validation.{AcceptedPlan}
+use Rattle.tree.specs.Tables.{offsetAt, endAt, parentOf, componentOf, depthOf, rankOf, lastRankOf}
+
+-- An accepted plan's file, how many windows it has, and its offsets and ends as tables.
+pub record Prepared (file : List ℕ) (windows : ℕ) (offsets ends : List ℕ) : Type 0 where
+  pub accepted : AcceptedPlan file
+  pub counted : windows ≡ windowCount file
+  pub offsets-held : Holds offsets (offsetAt file) windows
+  pub ends-held : Holds ends (endAt file) windows
+
+-- An accepted plan's file, how many windows it has, and its parent table.
+pub record Parented (file : List ℕ) (windows : ℕ) (parents : List ℕ) : Type 0 where
+  pub accepted : AcceptedPlan file
+  pub counted : windows ≡ windowCount file
+  pub parents-held : Holds parents (parentOf file) windows
+
+-- An accepted plan's file, how many windows it has, and the four tables that its tags are made of.
+pub record Numbered (file : List ℕ) (windows : ℕ) (components depths ranks lastRanks : List ℕ) : Type 0 where
+  pub accepted : AcceptedPlan file
+  pub counted : windows ≡ windowCount file
+  pub components-held : Holds components (componentOf file) windows
+  pub depths-held : Holds depths (depthOf file) windows
+  pub ranks-held : Holds ranks (rankOf file) windows
+  pub last-ranks-held : Holds lastRanks (lastRankOf file) windows
+
+-- r is the first position from `from` on whose end lies past the offset, or `to`.
+pub record FirstPast (ends : List ℕ) (offset from to r : ℕ) : Type 0 where
+  pub low : from ≤ r
+  pub high : r ≤ to
+  pub past : r < to → offset < getD ends r 0
+  pub before : (k : ℕ) → from ≤ k → k < r → getD ends k 0 ≤ offset
+
+-- The first n entries do not fall.
+abbrev pub Sorted : List ℕ → ℕ → Type 0
+Sorted l n = (i j : ℕ) → i ≤ j → j < n → getD l i 0 ≤ getD l j 0
+
+-- r is the last position from `from` on, below `to`, whose offset lies before the end, or `from`.
+pub record LastBefore (offsets : List ℕ) (end from to r : ℕ) : Type 0 where
+  pub low : from ≤ r
+  pub high : r < to
+  pub before : from < r → getD offsets r 0 < end
+  pub past : (k : ℕ) → r < k → k < to → end ≤ getD offsets k 0

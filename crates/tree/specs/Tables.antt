@@ -1,0 +1,49 @@
+-- Paper 01, "Tree", of the windows of a plan file. The tree itself is defined in `interval_graph`, and the overlap of two
+-- windows in `plan`.
+-- Vocabulary: offsetAt, endAt, lastOf, parentOf, componentOf, depthOf, sizeOf, rankOf, lastRankOf, componentCount, numbersAt.
+use Prim.Native.Nat.{ℕ}
+use mathlib.Core.List.{List}
+use Rattle.sequences.specs.Search.{count}
+use Rattle.interval_graph.specs.Tree.{last, parent, isRoot, component, depth}
+use Rattle.interval_graph.specs.PostOrder.{rank, lastRank}
+use Rattle.interval_graph.specs.Size.{size}
+use Rattle.interval_graph.specs.Numbers.{Numbers, numbersOf}
+use Rattle.plan.specs.File.{planNumber, windowCount, windowAt, endOf}
+use Rattle.plan.specs.Overlap.{overlaps}
+
+module _ (file : List ℕ) where
+  unfoldable pub offsetAt : ℕ → ℕ
+  offsetAt v = windowAt file v .offset
+
+  unfoldable pub endAt : ℕ → ℕ
+  endAt v = endOf (windowAt file v)
+
+  unfoldable pub lastOf : ℕ → ℕ
+  lastOf v = last (windowCount file) (overlaps file) v
+
+  unfoldable pub parentOf : ℕ → ℕ
+  parentOf v = parent (overlaps file) v
+
+  unfoldable pub componentOf : ℕ → ℕ
+  componentOf v = component (overlaps file) v
+
+  unfoldable pub depthOf : ℕ → ℕ
+  depthOf v = depth (overlaps file) v
+
+  -- The number of windows under v, itself included.
+  unfoldable pub sizeOf : ℕ → ℕ
+  sizeOf v = size (windowCount file) (overlaps file) v
+
+  unfoldable pub rankOf : ℕ → ℕ
+  rankOf v = rank (windowCount file) (overlaps file) v
+
+  unfoldable pub lastRankOf : ℕ → ℕ
+  lastRankOf v = lastRank (windowCount file) (overlaps file) v
+
+  -- How many components there are: one for each root.
+  unfoldable pub componentCount : ℕ
+  componentCount = count (isRoot (overlaps file)) (windowCount file)
+
+  -- The five numbers of the tag of the window at a position.
+  unfoldable pub numbersAt : ℕ → Numbers
+  numbersAt v = numbersOf (windowCount file) (overlaps file) (planNumber file) v

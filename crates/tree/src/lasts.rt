@@ -1,0 +1,84 @@
+// The last of each window, by a search over the later windows' offsets, which do not fall.
+use crate::answers::TableAnswer;
+use crate::spans::read_spans;
+use plan::Validation;
+use wire::Refusal;
+ghost use mathlib.Core.Path.{_≡_};
+ghost use Prim.Native.Nat.{_≤_, _<_};
+ghost use lib.ListN.{length};
+ghost use Rattle.sequences.specs.Table.{table, overwritten};
+ghost use Rattle.tree.specs.Tables.{lastOf};
+ghost use Rattle.plan.specs.File.{windowCount};
+ghost use Rattle.plan.specs.Validation.{AcceptedPlan};
+ghost use Rattle.tree.specs.SingleTable.{tableOf, afterTable};
+ghost use Rattle.tree.specs.Passes.{Prepared, Sorted, LastBefore};
+
+// The last position from `from` on, below `to`, whose offset lies before the end; `from` itself where there is none.
+fn last_before(offsets: &[u32], end: u32, from: usize, to: usize) -> usize
+    requires { ⌜ from < to ⌝ }
+    requires { ⌜ to ≤ length (now offsets) ⌝ }
+    requires { ⌜ Sorted (now offsets) to ⌝ }
+    ensures { λ r. ⌜ LastBefore (now (offsets .entry)) end from to r ⌝ }
+{
+    let mut low = from;
+    let mut high = to;
+    while 1 < high - low {
+        let middle = low + (high - low) / 2;
+        if offsets[middle] < end {
+            low = middle;
+        } else {
+            high = middle;
+        }
+    }
+    low
+}
+
+pub(crate) fn find_lasts(
+    file: &[u8],
+    windows: usize,
+    offsets: &[u32],
+    ends: &[u32],
+    lasts: &mut [u16],
+)
+    requires { ⌜ Prepared (now file) windows (now offsets) (now ends) ⌝ }
+    requires { ⌜ windows ≤ length (now lasts) ⌝ }
+    ensures { λ _. ⌜ now (lasts .exit) ≡ overwritten (now (lasts .entry)) (table (lastOf (now (file .entry))) windows) ⌝ }
+{
+    let mut position = 0;
+    while position < windows {
+        lasts[position] = last_before(offsets, ends[position], position, windows) as u16;
+        position += 1;
+    }
+}
+
+fn fill_lasts(file: &[u8], windows: usize, lasts: &mut [u16])
+    requires { ⌜ AcceptedPlan (now file) ⌝ }
+    requires { ⌜ windows ≡ windowCount (now file) ⌝ }
+    requires { ⌜ windows ≤ length (now lasts) ⌝ }
+    ensures { λ _. ⌜ now (lasts .exit) ≡ overwritten (now (lasts .entry)) (table (lastOf (now (file .entry))) windows) ⌝ }
+{
+    let mut offsets = [0; 2048];
+    let mut ends = [0; 2048];
+    read_spans(file, windows, &mut offsets, &mut ends);
+    find_lasts(file, windows, &offsets, &ends, lasts);
+}
+
+// The last table by itself.
+pub fn last_table(file: &[u8], lasts: &mut [u16]) -> TableAnswer
+    ensures { λ r. ⌜ r ≡ tableOf (now (file .entry)) (length (now (lasts .entry))) ⌝ }
+    ensures { λ r. ⌜ now (lasts .exit) ≡ afterTable r (lastOf (now (file .entry))) (now (lasts .entry)) ⌝ }
+{
+    let windows = match plan::validate(file) {
+        Validation::Accepted { plan: _, windows } => windows,
+        Validation::Refused(refusal) => return TableAnswer::Refused(refusal),
+    };
+    if lasts.len() < windows as usize {
+        return TableAnswer::Refused(Refusal {
+            number: 8,
+            input: 0,
+            position: 0,
+        });
+    }
+    fill_lasts(file, windows as usize, lasts);
+    TableAnswer::Filled { windows }
+}

@@ -1,0 +1,19 @@
+// The distance tree of a plan: its five tables and its tag file.
+mod answers;
+mod building;
+mod lasts;
+mod levels;
+mod parents;
+mod ranks;
+mod reaching;
+mod sizes;
+mod spans;
+mod tagging;
+
+pub use answers::BuildAnswer;
+pub use answers::ReachAnswer;
+pub use answers::TableAnswer;
+pub use building::build;
+pub use lasts::last_table;
+pub use parents::parent_table;
+pub use reaching::reach;

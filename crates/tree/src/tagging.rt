@@ -1,0 +1,39 @@
+// The tag file: the tags of the windows in order of position.
+ghost use mathlib.Core.Path.{_≡_};
+ghost use Prim.Native.Nat.{_*_, _≤_};
+ghost use lib.ListN.{length};
+ghost use Rattle.sequences.specs.Table.{overwritten};
+ghost use Rattle.plan.specs.File.{planNumber};
+ghost use Rattle.tag.specs.TagFile.{tagFile};
+ghost use Rattle.tree.specs.Tables.{numbersAt};
+ghost use Rattle.tree.specs.Passes.{Numbered};
+
+pub(crate) fn write_tags(
+    file: &[u8],
+    windows: usize,
+    plan: u16,
+    components: &[u16],
+    depths: &[u16],
+    ranks: &[u16],
+    last_ranks: &[u16],
+    tags: &mut [u8],
+)
+    requires { ⌜ Numbered (now file) windows (now components) (now depths) (now ranks) (now «last_ranks») ⌝ }
+    requires { ⌜ plan ≡ planNumber (now file) ⌝ }
+    requires { ⌜ 10 * windows ≤ length (now tags) ⌝ }
+    ensures { λ _. ⌜ now (tags .exit) ≡ overwritten (now (tags .entry)) (tagFile (numbersAt (now (file .entry))) windows) ⌝ }
+{
+    let mut position = 0;
+    while position < windows {
+        let at = 10 * position;
+        tag::write(
+            plan,
+            components[position],
+            depths[position],
+            ranks[position],
+            last_ranks[position],
+            &mut tags[at..],
+        );
+        position += 1;
+    }
+}
