@@ -41,6 +41,11 @@ module _ (p : ℕ → Bool) where
   every-fails n k h f =
       ⊎-elim (λ t. absurd (true-false-absurd (p k) (every-at n k t h) f)) (λ t. t) (truth (every p n))
 
+pub every-cong : (p q : ℕ → Bool) (n : ℕ) → ((k : ℕ) → k < n → p k ≡ q k) → every p n ≡ every q n
+every-cong p q n e =
+    iff-equal (every p n) (every q n) (λ t. every-intro q n (λ k h. sym (e k h) ∙ every-at p n k t h))
+    (λ t. every-intro p n (λ k h. e k h ∙ every-at q n k t h))
+
 beq-equal : (s t : Bool) → Bool·beq s t ≡ true → s ≡ t
 beq-equal true true e = refl
 beq-equal true false e = sym e

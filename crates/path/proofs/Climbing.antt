@@ -10,9 +10,9 @@ use mathlib.Core.List.{List}
 use native.Mathlib.Omega.{arith}
 use native.Mathlib.Numerals.{add-one}
 use lib.Dec.{ltb, leb}
-use borrow.Author.Tests.{ltb-true, lt-ltb, le-ltb, le-leb, lt-leb}
+use borrow.Author.Tests.{ltb-true, ltb-false, lt-ltb, le-ltb, le-leb, lt-leb}
 use Rattle.sequences.proofs.Tests.{true-false-absurd, lt-or-ge}
-use Rattle.sequences.proofs.Search.{least-unique}
+use Rattle.sequences.proofs.Search.{least-le, least-unique}
 use Rattle.interval_graph.specs.Order.{IntervalOrder}
 use Rattle.interval_graph.specs.Tree.{last, parent, ancestor}
 use Rattle.interval_graph.specs.Walk.{climb}
@@ -42,7 +42,19 @@ module _ {n : ℕ} {overlaps : ℕ → ℕ → Bool} (ok : IntervalOrder n overl
       (⊎-elim (λ l. l)
       (λ l. absurd (true-false-absurd _ (last-overlap ok u x h l) (sym e))) (lt-or-ge (last n overlaps u) x)))
 
+-- What the test's answer says.
+pub past-true : (r : Bool) (a b : ℕ) → r ≡ ltb a b → r ≡ true → a < b
+past-true r a b e t = ltb-true a b (sym e ∙ t)
+
+pub past-false : (r : Bool) (a b : ℕ) → r ≡ ltb a b → r ≡ false → b ≤ a
+past-false r a b e t = ltb-false a b (sym e ∙ t)
+
 module _ (n : ℕ) (overlaps : ℕ → ℕ → Bool) (u v : ℕ) where
+  -- There are never more steps than windows up to v.
+  pub climb-few : climb n overlaps u v ≤ suc v
+  unfolding climb
+  climb-few = least-le (λ j. leb (ancestor overlaps j v) (last n overlaps u)) (suc v)
+
   pub climbing-start : Climbing n overlaps u v v 0
   climbing-start =
       record { stands = sym (ancestor-zero overlaps v); fell = omega arith; behind = λ k h. absurd (omega arith) }

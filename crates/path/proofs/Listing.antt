@@ -12,12 +12,13 @@ use lib.Dec.{ltb, leb}
 use borrow.Author.Tests.{lt-ltb, le-ltb, le-leb, lt-leb}
 use Rattle.sequences.specs.Search.{passing}
 use Rattle.sequences.specs.Table.{overwritten}
-use Rattle.sequences.proofs.Appending.{Written, written-none, written-more, passing-more, passing-kept, passing-monotone}
+use Rattle.sequences.proofs.Appending.{Written, written-none, written-more, passing-more, passing-kept, passing-monotone, passing-few}
 use Rattle.wire.specs.declared.Refusal.{Refusal}
 use Rattle.wire.specs.Question.{question, firstNo}
 use Rattle.plan.specs.declared.questions.Validation.{Validation}
 use Rattle.plan.specs.declared.questions.Validation.the-variants as Validation
 use Rattle.plan.specs.File.{windowCount}
+use Rattle.plan.specs.Overlap.{overlaps}
 use Rattle.plan.specs.Validation.{validateOf}
 use Rattle.plan.proofs.Calls.{plan-first, accepted-numbers}
 use Rattle.path.specs.declared.answers.NeighboursAnswer.{NeighboursAnswer}
@@ -75,6 +76,10 @@ module _ (p : ℕ → Bool) (n : ℕ) where
     listed-kept before now t s =
         record { so-far = counted-kept t (s .so-far); list = rw (passing-kept p v t) (s .list) }
 
+-- No more are found than positions were passed.
+pub counted-few : (p : ℕ → Bool) (n found v : ℕ) → Counted p n found v → found ≤ v
+counted-few p n found v s = omega (arith, s .counted, passing-few p 0 v)
+
 -- The pass is done.
 pub counted-end : (p : ℕ → Bool) (n found v : ℕ) → n ≤ v → Counted p n found v → found ≡ length (passing p 0 n)
 counted-end p n found v done s = let e : v ≡ n = omega (arith, s .within) in rw e at (s .counted)
@@ -84,32 +89,44 @@ listed-end p n before now found v done s =
     let e : v ≡ n = omega (arith, s .so-far .within) in
     rw e at (s .list .written)
 
+-- The list that the pass makes is the neighbours.
+module _ (file : List ℕ) (windows at : ℕ) (named : windows ≡ windowCount file) where
+  pub listing-neighbours : passing (overlaps file at) 0 windows ≡ neighboursOf file at
+  unfolding neighboursOf
+  listing-neighbours = rw named
+
+  pub listing-room : (room : ℕ) → length (neighboursOf file at) ≤ room → length (passing (overlaps file at) 0 windows) ≤ room
+  listing-room room h = rw listing-neighbours h
+
+  pub neighbours-few : length (neighboursOf file at) ≤ windows
+  neighbours-few = rw (← listing-neighbours) (passing-few (overlaps file at) 0 windows)
+
 -- The answers.
-module _ (file : List ℕ) (at : ℕ) (before : List ℕ) (answer : Validation) (validated : answer ≡ validateOf file) where
-  pub neighbours-refused : (refusal : Refusal) → answer ≡ Validation.Refused refusal → Refused refusal ≡ neighboursAnswerOf file at (length before)
+module _ (file : List ℕ) (at room : ℕ) (answer : Validation) (validated : answer ≡ validateOf file) where
+  pub neighbours-refused : (refusal : Refusal) → answer ≡ Validation.Refused refusal → Refused refusal ≡ neighboursAnswerOf file at room
   unfolding neighboursAnswerOf
   neighbours-refused refusal e = sym (plan-first file _ Refused _ ∙ rw (← validated, e))
 
   module _ (plan windows : ℕ) (e : answer ≡ Validation.Accepted plan windows) where
-    pub neighbours-past : windows ≤ at → Refused (record { number = 7; input = 0; position = 0 }) ≡ neighboursAnswerOf file at (length before)
+    pub neighbours-past : windows ≤ at → Refused (record { number = 7; input = 0; position = 0 }) ≡ neighboursAnswerOf file at room
     unfolding neighboursAnswerOf neighboursQuestions positionQuestion question firstNo
     neighbours-past past =
         let named = accepted-numbers file plan windows (sym e ∙ validated) .1 in
         sym (plan-first file _ Refused _ ∙ rw (← validated, e, ← named, le-ltb at windows past))
 
     module _ (found : ℕ) (within : at < windows) (counted : found ≡ length (neighboursOf file at)) where
-      pub neighbours-short : length before < found → Refused (record { number = 8; input = 0; position = 0 }) ≡ neighboursAnswerOf file at (length before)
+      pub neighbours-short : room < found → Refused (record { number = 8; input = 0; position = 0 }) ≡ neighboursAnswerOf file at room
       unfolding neighboursAnswerOf neighboursQuestions positionQuestion roomQuestion question firstNo
       neighbours-short short =
           let named = accepted-numbers file plan windows (sym e ∙ validated) .1 in
           sym
           (plan-first file _ Refused _
-          ∙ rw (← validated, e, ← named, ← counted, lt-ltb at windows within, lt-leb found (length before) short))
+          ∙ rw (← validated, e, ← named, ← counted, lt-ltb at windows within, lt-leb found room short))
 
-      pub neighbours-listed : found ≤ length before → Neighbours found ≡ neighboursAnswerOf file at (length before)
+      pub neighbours-listed : found ≤ room → Neighbours found ≡ neighboursAnswerOf file at room
       unfolding neighboursAnswerOf neighboursQuestions positionQuestion roomQuestion question firstNo
       neighbours-listed fits =
           let named = accepted-numbers file plan windows (sym e ∙ validated) .1 in
           sym
           (plan-first file _ Refused _
-          ∙ rw (← validated, e, ← named, ← counted, lt-ltb at windows within, le-leb found (length before) fits))
+          ∙ rw (← validated, e, ← named, ← counted, lt-ltb at windows within, le-leb found room fits))

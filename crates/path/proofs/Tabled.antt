@@ -1,5 +1,6 @@
 -- A table of 2,048 entries holds any plan's, so `tree`'s calls that fill one answer it as the validation does: its refusal, or
 -- a table of the plan's windows.
+-- Vocabulary: Tabled.
 -- Assumes nothing.
 use Prim.Native.Nat.{ℕ, _≤_}
 use mathlib.Core.Path.{_≡_, refl, sym, ap, _∙_}
@@ -8,7 +9,7 @@ use native.Mathlib.Omega.{arith}
 use lib.ListN.{length}
 use lib.Dec.{leb}
 use borrow.Author.Tests.{le-leb}
-use Rattle.sequences.specs.Table.{table, overwritten, Holds}
+use Rattle.sequences.specs.Table.{Holds}
 use Rattle.sequences.proofs.Table.{overwritten-holds}
 use Rattle.wire.specs.declared.Refusal.{Refusal}
 use Rattle.wire.specs.Question.{question, firstNo}
@@ -20,6 +21,8 @@ use Rattle.plan.proofs.Accepted.{accepted-sound}
 use Rattle.plan.proofs.Calls.{plan-first, accepted-numbers, accepted-plan}
 use Rattle.tree.specs.declared.answers.TableAnswer.{TableAnswer}
 use Rattle.tree.specs.declared.answers.TableAnswer.the-variants.{Filled, Refused}
+use Rattle.tree.specs.Tables.{parentOf}
+use Rattle.tree.specs.Passes.{Parented}
 use Rattle.tree.specs.SingleTable.{roomQuestion, tableOf, afterTable}
 
 -- The validation's answer as that of a table that holds any plan's.
@@ -53,11 +56,27 @@ module _ (file : List ℕ) (room : ℕ) (enough : 2048 ≤ room) where
   accepts (Validation.Refused refusal) windows e f = let z : _≡_ {A = ℕ} 0 1 = cc in absurd (omega arith)
 
   -- A table that is filled is that of an accepted plan, with an entry for each window.
-  pub table-fills : (answer : TableAnswer) (windows : ℕ) → answer ≡ tableOf file room → answer ≡ Filled windows → AcceptedPlan file × (windows ≡ windowCount file)
+  table-fills : (answer : TableAnswer) (windows : ℕ) → answer ≡ tableOf file room → answer ≡ Filled windows → AcceptedPlan file × (windows ≡ windowCount file)
   table-fills answer windows e f =
       accepts (validateOf file) windows refl (sym f ∙ (e ∙ by-validation (validateOf file) refl))
 
--- What the table holds.
-pub table-holds : (f : ℕ → ℕ) (before after : List ℕ) (answer : TableAnswer) (windows : ℕ) → windows ≤ length before → answer ≡ Filled windows → after ≡ afterTable answer f before → Holds after f windows
+-- An accepted plan's file, how many windows it has, and one of its tables.
+pub record Tabled (file : List ℕ) (windows : ℕ) (f : ℕ → ℕ) (entries : List ℕ) : Type 0 where
+  pub accepted : AcceptedPlan file
+  pub counted : windows ≡ windowCount file
+  pub held : Holds entries f windows
+
+-- That is what such a call leaves where it refuses nothing.
+pub tabled : (file : List ℕ) (f : ℕ → ℕ) (before after : List ℕ) (answer : TableAnswer) (windows : ℕ) → 2048 ≤ length before → answer ≡ tableOf file (length before) → answer ≡ Filled windows → after ≡ afterTable answer f before → Tabled file windows f after
 unfolding afterTable
-table-holds f before after answer windows fits e w = overwritten-holds f windows before after fits (rw e at w)
+tabled file f before after answer windows enough e filled w =
+    let fills = table-fills file (length before) enough answer windows e filled in
+    record {
+      accepted = fills .0;
+      counted = fills .1;
+      held = overwritten-holds f windows before after (omega (arith, fills .1, accepted-sound file (fills .0) .few)) (rw filled at w);
+    }
+
+-- With the table of parents the walk can begin.
+pub tabled-parents : {file : List ℕ} {windows : ℕ} {parents : List ℕ} → Tabled file windows (parentOf file) parents → Parented file windows parents
+tabled-parents t = record { accepted = t .accepted; counted = t .counted; parents-held = t .held }
