@@ -1,0 +1,7 @@
+-- What the whole guarantees, over the definitions that the contracts cite. In reading order:
+--   Refusals   demand 1: what breaks a rule is refused, nothing else is, and nothing lent is altered
+--   Tree       demand 2: the tree and the tags are paper 01's, and tags survive being written and read
+--   Counts     demand 3: counts, chains and "no chain", from tags and from the plan
+pub mod Refusals
+pub mod Tree
+pub mod Counts
