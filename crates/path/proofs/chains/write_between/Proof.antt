@@ -27,7 +27,7 @@ returns-2 c = let d = c .before .before .before .before .before .before .before 
 
 write-walk-requires : tie.Need-write-walk-requires
 write-walk-requires c κs = let d = c .before .before .before .before .before .before .before in
-    (d .pre .0, (omega arith, (d .pre .1 .1, c .before .if2 .left)))
+    (d .pre .0, (omega arith, (omega arith, omega (arith, c .before .if2 .left))))
 
 add-t8 : tie.Need-add-t8
 add-t8 c = search needs
