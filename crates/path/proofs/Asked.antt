@@ -27,10 +27,10 @@ use Rattle.path.specs.declared.answers.SameAnswer.{SameAnswer}
 use Rattle.path.specs.declared.answers.SameAnswer.the-variants as SameAnswer
 use Rattle.path.specs.Questions.{positionQuestion}
 use Rattle.path.specs.Chain.{chainBetween, chainQuestions, chainAnswerOf, afterChain}
+use Rattle.path.specs.Steps.{chainRest}
 use Rattle.path.specs.Sameness.{every, samePairs, samePlans, sameAnswerOf}
 use Rattle.path.proofs.Tabled.{Tabled}
 use Rattle.path.proofs.Handed.{ordered}
-use Rattle.path.proofs.Walking.{chainRest}
 use Rattle.path.proofs.Alike.{every-cong, lasts-pairs}
 
 module _ (file : List ℕ) (first second room : ℕ) where

@@ -78,5 +78,5 @@ tabled file f before after answer windows enough e filled w =
     }
 
 -- With the table of parents the walk can begin.
-pub tabled-parents : {file : List ℕ} {windows : ℕ} {parents : List ℕ} → Tabled file windows (parentOf file) parents → Parented file windows parents
-tabled-parents t = record { accepted = t .accepted; counted = t .counted; parents-held = t .held }
+pub tabled-parents : {file : List ℕ} {windows : ℕ} {parents : List ℕ} → Tabled file windows (parentOf file) parents → Parented file (windowCount file) parents
+tabled-parents t = record { accepted = t .accepted; counted = refl; parents-held = rw (t .counted) at (t .held) }
