@@ -78,7 +78,8 @@ module _ (first second : List ℕ) where
     same-refused-second refusal e =
         sym (plan-first first _ SameAnswer.Refused _ ∙ rw ok (plan-second SameAnswer.Refused second _ ∙ rw e))
 
-    compared : AcceptedPlan second → sameAnswerOf first second ≡ cond (samePlans first second) SameAnswer.Same SameAnswer.Different
+    -- Of two accepted plans the test decides.
+    pub compared : AcceptedPlan second → sameAnswerOf first second ≡ cond (samePlans first second) SameAnswer.Same SameAnswer.Different
     unfolding sameAnswerOf
     compared ok′ = plan-first first _ SameAnswer.Refused _ ∙ rw ok (plan-second SameAnswer.Refused second _ ∙ rw ok′)
 
