@@ -1,4 +1,4 @@
--- `path::chains::climb_steps` meets its contract. The loop's invariant is `Climbing`; the measure is the position, which each step
+-- `path::walk::climb_steps` meets its contract. The loop's invariant is `Climbing`; the measure is the position, which each step
 -- lowers.
 -- Assumes nothing.
 use mathlib.Core.Path.{sym, _∙_}
@@ -10,8 +10,8 @@ use Rattle.interval_graph.proofs.Parent.{parent-le}
 use Rattle.path.proofs.Handed.{handed-few, handed-long, handed-parent}
 use Rattle.path.proofs.Climbing.{Climbing, past-true, past-false, climbing-start, climbing-turn, climbing-arrived, climbing-root}
 use borrow.Author.Needs.{needs}
-use Rattle.path.proofs.chains.climb_steps.Statement.{statement}
-use Rattle.path.proofs.chains.climb_steps.Tie as tie
+use Rattle.path.proofs.walk.climb_steps.Statement.{statement}
+use Rattle.path.proofs.walk.climb_steps.Tie as tie
 
 abbrev Inv-loop : tie.InvT-loop
 Inv-loop file parents earlier later at₀ steps₀ at steps = Climbing (windowCount file) (overlaps file) earlier later at steps

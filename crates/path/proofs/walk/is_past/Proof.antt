@@ -1,10 +1,10 @@
--- `path::chains::is_past` meets its contract: a window not behind the earlier one is not past its last, and one behind it is past
+-- `path::walk::is_past` meets its contract: a window not behind the earlier one is not past its last, and one behind it is past
 -- exactly if the two do not overlap.
 -- Assumes nothing.
 use Rattle.plan.proofs.Overlap.{interval-order}
 use Rattle.path.proofs.Climbing.{past-not, past-apart}
-use Rattle.path.proofs.chains.is_past.Statement.{statement}
-use Rattle.path.proofs.chains.is_past.Tie as tie
+use Rattle.path.proofs.walk.is_past.Statement.{statement}
+use Rattle.path.proofs.walk.is_past.Tie as tie
 
 returns : tie.Need-returns
 returns c = past-not (interval-order _ (c .before .before .pre .0)) _ _ (c .if1 .taken)

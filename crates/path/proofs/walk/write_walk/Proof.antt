@@ -1,4 +1,4 @@
--- `path::chains::write_walk` meets its contract. The loop's invariant is `Stepping`; the measure is what is left of the steps.
+-- `path::walk::write_walk` meets its contract. The loop's invariant is `Stepping`; the measure is what is left of the steps.
 -- Assumes nothing.
 use Prim.Native.Nat.{_-_}
 use native.Mathlib.Omega.{arith}
@@ -6,8 +6,8 @@ use lib.ListN.{length-set}
 use Rattle.path.proofs.Handed.{handed-few, handed-long, handed-parent}
 use Rattle.path.proofs.Walking.{Stepping, stepping-start, stepping-low, stepping-turn, stepping-end}
 use borrow.Author.Needs.{needs}
-use Rattle.path.proofs.chains.write_walk.Statement.{statement}
-use Rattle.path.proofs.chains.write_walk.Tie as tie
+use Rattle.path.proofs.walk.write_walk.Statement.{statement}
+use Rattle.path.proofs.walk.write_walk.Tie as tie
 
 abbrev Inv-loop : tie.InvT-loop
 Inv-loop file parents earlier later steps out₀ at₀ step₀ out at step = Stepping file later steps out₀ out at step

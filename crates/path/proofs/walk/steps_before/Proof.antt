@@ -1,4 +1,4 @@
--- `path::chains::steps_before` meets its contract: none for one window, and else one more than the steps up.
+-- `path::walk::steps_before` meets its contract: none for one window, and else one more than the steps up.
 -- Assumes nothing.
 use native.Mathlib.Omega.{arith}
 use denote.Ref.{now}
@@ -8,8 +8,8 @@ use Rattle.path.proofs.Handed.{handed-few}
 use Rattle.path.proofs.Climbing.{climb-few}
 use Rattle.path.proofs.Walking.{steps-none, steps-some}
 use borrow.Author.Needs.{needs}
-use Rattle.path.proofs.chains.steps_before.Statement.{statement}
-use Rattle.path.proofs.chains.steps_before.Tie as tie
+use Rattle.path.proofs.walk.steps_before.Statement.{statement}
+use Rattle.path.proofs.walk.steps_before.Tie as tie
 
 returns : tie.Need-returns
 returns c = steps-none _ _ _ (c .if1 .taken)
