@@ -3,8 +3,8 @@
 -- and two plans are answered to be the same exactly if they have equal n and every window has the same numbers.
 -- Assumes nothing.
 use Prim.Native.Nat.{ℕ, _<_}
-use mathlib.Core.Bool.{Bool, true, false, cond}
-use mathlib.Core.Path.{_≡_, refl, sym, _∙_}
+use mathlib.Core.Bool.{true, cond}
+use mathlib.Core.Path.{_≡_, sym, _∙_}
 use mathlib.Core.Logic.{⊎-elim, _↔_}
 use mathlib.Core.List.{List, [], List·Memᴰ}
 use native.Mathlib.Omega.{arith}
@@ -17,7 +17,6 @@ use Rattle.plan.specs.File.{windowCount}
 use Rattle.plan.specs.Overlap.{overlaps}
 use Rattle.plan.specs.Validation.{AcceptedPlan}
 use Rattle.plan.proofs.Overlap.{interval-order}
-use Rattle.path.specs.declared.answers.SameAnswer.{SameAnswer}
 use Rattle.path.specs.declared.answers.SameAnswer.the-variants.{Same, Different}
 use Rattle.path.specs.Chain.{chainBetween}
 use Rattle.path.specs.Neighbours.{neighboursOf}

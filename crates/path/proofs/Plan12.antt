@@ -1,9 +1,7 @@
 -- Paper 01's plan 12, from its bytes: chains, neighbours and sameness come out of the definitions by computation.
 -- Assumes nothing.
-use Prim.Native.Nat.{ℕ}
-use mathlib.Core.Bool.{true}
 use mathlib.Core.Path.{_≡_, refl}
-use mathlib.Core.List.{List, [], _∷_}
+use mathlib.Core.List.{[], _∷_}
 use Rattle.interval_graph.specs.Walk.{climb, walk, chainOf}
 use Rattle.sequences.specs.Search.{passing}
 use Rattle.plan.proofs.Plan12.{file, meaning}

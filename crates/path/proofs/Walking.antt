@@ -2,15 +2,13 @@
 -- test of the call, over plain numbers and lists.
 -- Vocabulary: Stepping.
 -- Assumes nothing.
-use Prim.Native.Nat.{ℕ, zero, suc, _+_, _≤_, _<_, min, max}
-use mathlib.Core.Bool.{Bool, true, false, cond}
-use mathlib.Core.Path.{_≡_, refl, sym, ap, _∙_}
+use Prim.Native.Nat.{ℕ, suc, _+_, _≤_, _<_, min, max}
+use mathlib.Core.Path.{_≡_, refl, sym}
 use mathlib.Core.Logic.{⊎-elim}
-use mathlib.Core.List.{List, [], _∷_, _++_}
+use mathlib.Core.List.{List, [], _∷_}
 use native.Mathlib.Omega.{arith}
 use native.Mathlib.Numerals.{add-one}
 use lib.ListN.{length, set, length-append}
-use lib.Dec.{eqb, leb}
 use borrow.Author.Tests.{eq-eqb, ne-eqb, le-leb, lt-leb}
 use Rattle.sequences.specs.Table.{table, overwritten}
 use Rattle.sequences.proofs.Tests.{equal-or-not}
@@ -23,7 +21,6 @@ use Rattle.interval_graph.proofs.ShortestChain.{chain-same, chain-walk, chain-n
 use Rattle.wire.specs.Question.{question, firstNo}
 use Rattle.plan.specs.File.{windowCount}
 use Rattle.plan.specs.Overlap.{overlaps}
-use Rattle.path.specs.declared.answers.ChainAnswer.{ChainAnswer}
 use Rattle.path.specs.declared.answers.ChainAnswer.the-variants.{Chain, NoChain, Refused}
 use Rattle.path.specs.Questions.{roomQuestion}
 use Rattle.path.specs.Steps.{stepsBefore, walked, chainRest}

@@ -1,7 +1,7 @@
 -- What the walk behind `chain` counts, writes and answers. Nothing here has to be believed: no public promise cites it.
 -- Vocabulary: stepsBefore, walked, chainRest.
 use Prim.Native.Nat.{ℕ, suc}
-use mathlib.Core.Bool.{Bool, cond}
+use mathlib.Core.Bool.{cond}
 use mathlib.Core.List.{List, [], _∷_, _++_}
 use lib.ListN.{length}
 use lib.Dec.{eqb}

@@ -3,7 +3,6 @@
 -- Assumes nothing.
 use mathlib.Core.Path.{refl}
 use native.Mathlib.Omega.{arith}
-use Rattle.tree.specs.Tables.{parentOf}
 use Rattle.path.specs.Chain.{afterChain}
 use Rattle.path.proofs.Tabled.{tabled, tabled-parents, table-refuses}
 use Rattle.path.proofs.Asked.{chain-refused, chain-first-past, chain-second-past, chain-asked, chain-asked-turned}

@@ -1,6 +1,5 @@
 -- `path::chains::write_between` meets its contract: no chain, too little room, or the chain written.
 -- Assumes nothing.
-use mathlib.Core.Path.{_∙_}
 use native.Mathlib.Omega.{arith}
 use Rattle.path.proofs.Handed.{handed-few}
 use Rattle.path.proofs.Walking.{between-apart, between-walked, between-length, rest-none, rest-short, rest-written}
