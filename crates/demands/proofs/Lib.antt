@@ -1,1 +1,4 @@
-
+-- The three demands, proved.
+pub mod Refusals
+pub mod Tree
+pub mod Counts
