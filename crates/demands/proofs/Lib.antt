@@ -2,3 +2,5 @@
 pub mod Refusals
 pub mod Tree
 pub mod Counts
+pub mod Sameness
+pub mod Cases
