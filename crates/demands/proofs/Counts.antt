@@ -60,6 +60,11 @@ unfolding chainFound
 found-none [] e = refl
 found-none (x ∷ l) e = let z : _≡_ {A = ℕ} 0 1 = cc in absurd (omega arith)
 
+pub found-count : (l : List ℕ) (entries : ℕ) → chainFound l ≡ ChainAnswer.Chain entries → entries ≡ length l
+unfolding chainFound
+found-count [] entries e = let z : _≡_ {A = ℕ} 0 1 = cc in absurd (omega arith)
+found-count (x ∷ l) entries e = cc
+
 module _ (file : List ℕ) (ok : AcceptedPlan file) (u v : ℕ) (hu : u < windowCount file) (hv : v < windowCount file) where
   order : IntervalOrder (windowCount file) (overlaps file)
   order = interval-order file ok
@@ -89,16 +94,16 @@ module _ (file : List ℕ) (ok : AcceptedPlan file) (u v : ℕ) (hu : u < window
       ∙ rw (lt-ltb u (windowCount file) hu, lt-ltb v (windowCount file) hv)
 
   -- Where the table holds the chain, the answer is what is found of it; where it does not, the answer is a refusal.
-  chain-roomy : (room : ℕ) → length (chainBetween file u v) ≤ room → chainAnswerOf file u v room ≡ chainFound (chainBetween file u v)
+  pub chain-roomy : (room : ℕ) → length (chainBetween file u v) ≤ room → chainAnswerOf file u v room ≡ chainFound (chainBetween file u v)
   unfolding roomQuestion question firstNo
   chain-roomy room fits = chain-asked room ∙ rw (le-leb (length (chainBetween file u v)) room fits)
 
-  chain-not-roomy : (room : ℕ) → leb (length (chainBetween file u v)) room ≡ false → chainAnswerOf file u v room ≡ ChainAnswer.NoChain → ⊥
+  pub chain-short : (room : ℕ) → leb (length (chainBetween file u v)) room ≡ false → chainAnswerOf file u v room ≡ ChainAnswer.Refused (record { number = 8; input = 0; position = 0 })
   unfolding roomQuestion question firstNo
-  chain-not-roomy room short e =
-      let refused : chainAnswerOf file u v room ≡ ChainAnswer.Refused (record { number = 8; input = 0; position = 0 }) = chain-asked room ∙ rw short in
-      let z : _≡_ {A = ℕ} 0 1 = cc in
-      omega arith
+  chain-short room short = chain-asked room ∙ rw short
+
+  chain-not-roomy : (room : ℕ) → leb (length (chainBetween file u v)) room ≡ false → chainAnswerOf file u v room ≡ ChainAnswer.NoChain → ⊥
+  chain-not-roomy room short e = let z : _≡_ {A = ℕ} 0 1 = cc (chain-short room short) in omega arith
 
   empty-apart : (chainBetween file u v ≡ []) ↔ (Joined (windowCount file) (overlaps file) u v → ⊥)
   unfolding chainBetween

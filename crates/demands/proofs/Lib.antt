@@ -4,3 +4,4 @@ pub mod Tree
 pub mod Counts
 pub mod Sameness
 pub mod Cases
+pub mod Together

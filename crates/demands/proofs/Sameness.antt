@@ -69,8 +69,9 @@ module _ (first second : List ℕ) (count : windowCount first ≡ windowCount se
           (ap (drop 2) (sym (tag-bytes first v h)) ∙ (tags v h ∙ ap (drop 2) (tag-bytes second v (rw (← count) h))))
 
 pub same-iff-tags : SameIffTags
-same-iff-tags first second ok ok′ =
-    ( λ e.
+same-iff-tags first second ok ok′ = (
+  λ e.
       let s = same-iff-numbers first second ok ok′ .0 e in
-      record { count = s .0; tags = tags-agree first second (s .0) (s .1) }
-    , λ t. same-iff-numbers first second ok ok′ .1 (t .count, numbers-agree first second (t .count) (t .tags)))
+      record { count = s .0; tags = tags-agree first second (s .0) (s .1) },
+  λ t. same-iff-numbers first second ok ok′ .1 (t .count, numbers-agree first second (t .count) (t .tags)),
+)
