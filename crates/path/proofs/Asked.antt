@@ -40,7 +40,7 @@ module _ (file : List ℕ) (first second room : ℕ) where
   -- The same chain in either order of naming.
   pub between-symmetric : chainBetween file second first ≡ chainBetween file first second
   unfolding chainBetween
-  between-symmetric = chain-symmetric (windowCount file) (overlaps file) second first
+  between-symmetric = chain-symmetric _ _ second first
 
   module _ (ok : AcceptedPlan file) (windows : ℕ) (named : windows ≡ windowCount file) where
     pub chain-first-past : windows ≤ first → ChainAnswer.Refused (record { number = 7; input = 0; position = 0 }) ≡ chainAnswerOf file first second room
