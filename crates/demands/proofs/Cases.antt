@@ -1,0 +1,124 @@
+-- Paper 01's cases marked P: one test over the table, and one law that turns the test into what a case says.
+-- Assumes nothing.
+use Prim.Native.Nat.{ℕ, _<_}
+use mathlib.Core.Bool.{Bool, true, false, _&&_, _||_}
+use mathlib.Core.Path.{_≡_, refl, sym, ap, _∙_}
+use mathlib.Core.Logic.{_⊎_, inl, inr, ⊎-elim}
+use mathlib.Core.List.{List, [], _∷_, List·Memᴰ, List·Memᴰ·not-nil, List·Memᴰ·cases-cons}
+use native.Mathlib.Omega.{arith}
+use lib.Dec.{ltb, eqb}
+use borrow.Author.Tests.{ltb-true, eqb-true}
+use Rattle.sequences.proofs.Tests.{and-left, and-right, or-cases}
+use Rattle.interval_graph.specs.Numbers.{Outcome, apart, no-chain, outcome, numbersOf}
+use Rattle.interval_graph.specs.Walk.{climb, walk, chainOf}
+use Rattle.interval_graph.proofs.Plan12.{definitions}
+use Rattle.interval_graph.proofs.Rule.{outcome-apart, outcome-no-chain}
+use Rattle.wire.proofs.Question.{first-cases}
+use Rattle.plan.specs.declared.questions.Validation.{Validation}
+use Rattle.plan.specs.declared.questions.Validation.the-variants.{Accepted, Refused}
+use Rattle.plan.specs.File.{planNumber, windowCount}
+use Rattle.plan.specs.Overlap.{overlaps}
+use Rattle.plan.specs.Validation.{planQuestions, validateOf, AcceptedPlan}
+use Rattle.plan.proofs.Plan12.{meaning}
+use Rattle.plan.proofs.Overlap.{interval-order}
+use Rattle.path.specs.Chain.{chainBetween}
+use Rattle.demands.specs.Cases.{spans, fileOf, plan12, touching, overlapping, Case, cases, Says, CaseHolds}
+
+isAccepted : Validation → Bool
+isAccepted (Accepted plan windows) = true
+isAccepted (Refused r) = false
+
+accepted-is : (file : List ℕ) → isAccepted (validateOf file) ≡ true → AcceptedPlan file
+unfolding validateOf isAccepted
+accepted-is file t =
+    ⊎-elim (λ e. e) (λ r. let z : _≡_ {A = Bool} false true = sym (ap isAccepted (r .1)) ∙ t in absurd (mathlib.Core.Bool.false≢true z))
+    (first-cases (planQuestions 0 file) Refused (Accepted (planNumber file) (windowCount file)))
+
+sameOutcome : Outcome → Outcome → Bool
+sameOutcome (apart j) (apart k) = eqb j k
+sameOutcome (apart j) no-chain = false
+sameOutcome no-chain (apart k) = false
+sameOutcome no-chain no-chain = true
+
+outcome-is : (o e : Outcome) → sameOutcome o e ≡ true → o ≡ e
+unfolding sameOutcome
+outcome-is (apart j) (apart k) t = ap apart (eqb-true j k t)
+outcome-is (apart j) no-chain t = absurd (mathlib.Core.Bool.false≢true t)
+outcome-is no-chain (apart k) t = absurd (mathlib.Core.Bool.false≢true t)
+outcome-is no-chain no-chain t = refl
+
+sameList : List ℕ → List ℕ → Bool
+sameList [] [] = true
+sameList [] (y ∷ m) = false
+sameList (x ∷ l) [] = false
+sameList (x ∷ l) (y ∷ m) = eqb x y && sameList l m
+
+list-is : (l m : List ℕ) → sameList l m ≡ true → l ≡ m
+unfolding sameList
+list-is [] [] t = refl
+list-is [] (y ∷ m) t = absurd (mathlib.Core.Bool.false≢true t)
+list-is (x ∷ l) [] t = absurd (mathlib.Core.Bool.false≢true t)
+list-is (x ∷ l) (y ∷ m) t =
+    let head : x ≡ y = eqb-true x y (and-left (eqb x y) (sameList l m) t) in
+    let tail : l ≡ m = list-is l m (and-right (eqb x y) (sameList l m) t) in
+    cc
+
+found : Case → Outcome
+found c =
+    outcome (numbersOf (windowCount (c .file)) (overlaps (c .file)) 0 (c .first)) (numbersOf (windowCount (c .file)) (overlaps (c .file)) 0 (c .second))
+
+test : Case → Bool
+test c =
+    isAccepted (validateOf (c .file))
+    && (ltb (c .first) (windowCount (c .file))
+    && (ltb (c .second) (windowCount (c .file))
+    && (sameOutcome (found c) (c .expected)
+    && (sameList (c .chain) [] || sameList (chainBetween (c .file) (c .first) (c .second)) (c .chain)))))
+
+tests : List Case → Bool
+tests [] = true
+tests (c ∷ l) = test c && tests l
+
+-- What the definitions compute is what a case says.
+case-says : (file : List ℕ) → AcceptedPlan file → (u v : ℕ) → u < windowCount file → v < windowCount file → (e : Outcome) → outcome (numbersOf (windowCount file) (overlaps file) 0 u) (numbersOf (windowCount file) (overlaps file) 0 v) ≡ e → Says file u v e
+case-says file ok u v hu hv (apart k) o = outcome-apart (interval-order file ok) u v 0 k hu hv .0 o
+case-says file ok u v hu hv no-chain o = outcome-no-chain (interval-order file ok) u v 0 hu hv .0 o
+
+test-holds : (c : Case) → test c ≡ true → CaseHolds c
+unfolding test found
+test-holds c t =
+    let t5 = sameList (c .chain) [] || sameList (chainBetween (c .file) (c .first) (c .second)) (c .chain) in
+    let t4 = sameOutcome (found c) (c .expected) && t5 in
+    let t3 = ltb (c .second) (windowCount (c .file)) && t4 in
+    let t2 = ltb (c .first) (windowCount (c .file)) && t3 in
+    let h2 = and-right (isAccepted (validateOf (c .file))) t2 t in
+    let h3 = and-right (ltb (c .first) (windowCount (c .file))) t3 h2 in
+    let h4 = and-right (ltb (c .second) (windowCount (c .file))) t4 h3 in
+    let ok = accepted-is (c .file) (and-left (isAccepted (validateOf (c .file))) t2 t) in
+    let hu = ltb-true _ _ (and-left (ltb (c .first) (windowCount (c .file))) t3 h2) in
+    let hv = ltb-true _ _ (and-left (ltb (c .second) (windowCount (c .file))) t4 h3) in
+    record {
+      accepted = ok;
+      first-window = hu;
+      second-window = hv;
+      count = case-says (c .file) ok (c .first) (c .second) hu hv (c .expected) (outcome-is (found c) (c .expected) (and-left (sameOutcome (found c) (c .expected)) t5 h4));
+      chain =
+          ⊎-elim (λ s. inl (list-is (c .chain) [] s)) (λ s. inr (list-is _ (c .chain) s))
+          (or-cases (sameList (c .chain) []) (sameList (chainBetween (c .file) (c .first) (c .second)) (c .chain)) (and-right (sameOutcome (found c) (c .expected)) t5 h4));
+    }
+
+-- The eleven cases pass.
+cases-pass : tests cases ≡ true
+unfolding definitions meaning climb walk chainOf chainBetween spans fileOf plan12 touching overlapping cases tests test found isAccepted sameOutcome sameList
+cases-pass = refl
+
+tests-hold : (l : List Case) → tests l ≡ true → (c : Case) → List·Memᴰ c l → CaseHolds c
+unfolding tests
+tests-hold [] t c m = absurd (List·Memᴰ·not-nil m)
+tests-hold (d ∷ l) t c m =
+    ⊎-elim (λ e. rw e (test-holds d (and-left (test d) (tests l) t))) (λ later. tests-hold l (and-right (test d) (tests l) t) c later)
+    (List·Memᴰ·cases-cons m)
+
+-- All cases marked P hold.
+pub cases-hold : (c : Case) → List·Memᴰ c cases → CaseHolds c
+cases-hold = tests-hold cases cases-pass

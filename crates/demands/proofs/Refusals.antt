@@ -1,0 +1,88 @@
+-- Demand 1: one law on a list of questions, at every call.
+-- Assumes nothing.
+use Prim.Native.Nat.{ℕ}
+use mathlib.Core.Bool.{true, false, true≢false, cond}
+use mathlib.Core.Path.{_≡_, refl, sym, ap, _∙_}
+use mathlib.Core.Logic.{_↔_, ⊎-elim}
+use mathlib.Core.List.{List, [], _∷_}
+use native.Mathlib.Omega.{arith}
+use Rattle.sequences.proofs.Tests.{truth}
+use Rattle.interval_graph.specs.Numbers.{Outcome, apart, no-chain, outcome}
+use Rattle.wire.specs.declared.Refusal.{Refusal}
+use Rattle.wire.specs.Question.{Question, firstNo}
+use Rattle.wire.proofs.Question.{first-yes, first-no}
+use Rattle.plan.specs.declared.questions.Validation.the-variants as Validation
+use Rattle.plan.specs.Validation.{validateOf}
+use Rattle.tag.specs.declared.tags.TagRead.the-variants as TagRead
+use Rattle.tag.specs.declared.writer.WriteAnswer.the-variants as WriteAnswer
+use Rattle.tag.specs.declared.lookups.LookupAnswer.the-variants as LookupAnswer
+use Rattle.tag.specs.declared.pairing.PairAnswer.the-variants as PairAnswer
+use Rattle.tag.specs.Fields.{tagOf, numbers}
+use Rattle.tag.specs.Reading.{readOf}
+use Rattle.tag.specs.Writing.{writeOf, afterWrite}
+use Rattle.tag.specs.TagFile.{lookupOf}
+use Rattle.tag.specs.Pairs.{answerOf, pairOf}
+use Rattle.tree.specs.declared.answers.BuildAnswer.the-variants as BuildAnswer
+use Rattle.tree.specs.declared.answers.ReachAnswer.the-variants as ReachAnswer
+use Rattle.tree.specs.Build.{buildOf, afterBuild, afterTags}
+use Rattle.tree.specs.ReachCall.{reachOf}
+use Rattle.path.specs.declared.answers.ChainAnswer.the-variants as ChainAnswer
+use Rattle.path.specs.declared.answers.NeighboursAnswer.the-variants as NeighboursAnswer
+use Rattle.path.specs.declared.answers.SameAnswer.the-variants as SameAnswer
+use Rattle.path.specs.Chain.{chainBetween, chainFound, chainAnswerOf, afterChain}
+use Rattle.path.specs.Neighbours.{neighboursAnswerOf, afterNeighbours}
+use Rattle.path.specs.Sameness.{samePlans, sameAnswerOf}
+use Rattle.demands.specs.Refusals.{FirstNo, here, there, Refuses, Demand1}
+
+-- An answer by `firstNo` is a refusal exactly if that is the first "no", where what is accepted is no refusal and a refusal can be
+-- told from its answer.
+module _ {A : Type 0} (refused : Refusal → A) (accepted : A) (tells : (r s : Refusal) → refused r ≡ refused s → r ≡ s) (apart : (r : Refusal) → accepted ≡ refused r → ⊥) where
+  sound : (qs : List Question) (r : Refusal) → firstNo qs refused accepted ≡ refused r → FirstNo qs r
+  unfolding firstNo
+  sound [] r e = absurd (apart r e)
+  sound (q ∷ qs) r e =
+      ⊎-elim (λ t. there t (sound qs r (sym (first-yes qs refused accepted q t) ∙ e)))
+      (λ t. here t (sym (tells (q .refusal) r (sym (first-no qs refused accepted q t) ∙ e)))) (truth (q .yes))
+
+  complete : (qs : List Question) (r : Refusal) → FirstNo qs r → firstNo qs refused accepted ≡ refused r
+  complete (q ∷ qs) r (here t e) = first-no qs refused accepted q t ∙ ap refused (sym e)
+  complete (q ∷ qs) r (there t m) = first-yes qs refused accepted q t ∙ complete qs r m
+
+  refuses : (qs : List Question) → Refuses qs refused (firstNo qs refused accepted)
+  refuses qs r = (sound qs r, complete qs r)
+
+-- What the rule says of two tags, and what is found of a chain, is no refusal.
+pub outcome-answered : (o : Outcome) (r : Refusal) → answerOf o ≡ PairAnswer.Refused r → ⊥
+unfolding answerOf
+outcome-answered (apart k) r e = let z : _≡_ {A = ℕ} 0 1 = cc in omega arith
+outcome-answered no-chain r e = let z : _≡_ {A = ℕ} 0 1 = cc in omega arith
+
+chain-found : (l : List ℕ) (r : Refusal) → chainFound l ≡ ChainAnswer.Refused r → ⊥
+unfolding chainFound
+chain-found [] r e = let z : _≡_ {A = ℕ} 0 1 = cc in omega arith
+chain-found (x ∷ l) r e = let z : _≡_ {A = ℕ} 0 1 = cc in omega arith
+
+same-found : (b : mathlib.Core.Bool.Bool) (r : Refusal) → cond b SameAnswer.Same SameAnswer.Different ≡ SameAnswer.Refused r → ⊥
+same-found true r e = let z : _≡_ {A = ℕ} 0 1 = cc in omega arith
+same-found false r e = let z : _≡_ {A = ℕ} 0 1 = cc in omega arith
+
+pub demand-1 : Demand1
+unfolding validateOf buildOf reachOf chainAnswerOf neighboursAnswerOf sameAnswerOf readOf writeOf lookupOf pairOf afterBuild afterTags afterChain afterNeighbours afterWrite
+demand-1 =
+    record {
+      validating = λ file. refuses Validation.Refused _ (λ r s e. cc) (λ r e. let z : _≡_ {A = ℕ} 0 1 = cc in omega arith) _;
+      building = λ file p c d r l t. refuses BuildAnswer.Refused _ (λ r s e. cc) (λ r e. let z : _≡_ {A = ℕ} 0 1 = cc in omega arith) _;
+      reaching = λ file at. refuses ReachAnswer.Refused _ (λ r s e. cc) (λ r e. let z : _≡_ {A = ℕ} 0 1 = cc in omega arith) _;
+      chaining = λ file first second room. refuses ChainAnswer.Refused _ (λ r s e. cc) (chain-found (chainBetween file first second)) _;
+      neighbouring = λ file at room. refuses NeighboursAnswer.Refused _ (λ r s e. cc) (λ r e. let z : _≡_ {A = ℕ} 0 1 = cc in omega arith) _;
+      comparing = λ first second. refuses SameAnswer.Refused _ (λ r s e. cc) (same-found (samePlans first second)) _;
+      reading = λ bytes. refuses TagRead.Refused _ (λ r s e. cc) (λ r e. let z : _≡_ {A = ℕ} 0 1 = cc in omega arith) _;
+      writing = λ n out. refuses WriteAnswer.Refused _ (λ r s e. cc) (λ r e. let z : _≡_ {A = ℕ} 0 1 = cc in omega arith) _;
+      looking-up = λ tags at. refuses LookupAnswer.Refused _ (λ r s e. cc) (λ r e. let z : _≡_ {A = ℕ} 0 1 = cc in omega arith) _;
+      pairing = λ first second. refuses PairAnswer.Refused _ (λ r s e. cc) (outcome-answered (outcome (numbers (tagOf first)) (numbers (tagOf second)))) _;
+      build-untouched = λ r f before. refl;
+      tags-untouched = λ r f before. refl;
+      chain-untouched = λ r chain before. refl;
+      neighbours-untouched = λ r neighbours before. refl;
+      write-untouched = λ r n before. refl;
+    }

@@ -1,0 +1,69 @@
+-- Demand 2.
+-- Assumes nothing.
+use Prim.Native.Nat.{ℕ, _≤_, _<_, _*_}
+use mathlib.Core.Bool.{true, _&&_}
+use mathlib.Core.Path.{_≡_, refl, sym, ap, _∙_}
+use mathlib.Core.List.{List, []}
+use native.Mathlib.Omega.{arith}
+use lib.ListN.{length}
+use lib.Dec.{leb}
+use borrow.Author.Tests.{le-leb}
+use Rattle.sequences.specs.Table.{overwritten}
+use Rattle.sequences.proofs.Tests.{and-intro}
+use Rattle.interval_graph.specs.Numbers.{numbersOf}
+use Rattle.interval_graph.proofs.Bounds.{numbers-small}
+use Rattle.plan.specs.declared.questions.Validation.{Validation}
+use Rattle.plan.specs.File.{planNumber, windowCount}
+use Rattle.plan.specs.Overlap.{overlaps}
+use Rattle.plan.specs.Validation.{AcceptedPlan, validateOf}
+use Rattle.plan.proofs.Accepted.{accepted-sound}
+use Rattle.plan.proofs.Overlap.{interval-order}
+use Rattle.tag.specs.Fields.{fieldCount, tagLength, fieldLimit, numbers, tagBytes, withinLimit}
+use Rattle.tag.specs.Writing.{afterWrite}
+use Rattle.tag.proofs.Fields.{limit-within, length-tagBytes}
+use Rattle.tag.proofs.Writing.{tagBytes-read, written-reads-back, read-tagBytes, read-accepted}
+use Rattle.tag.proofs.TagFile.{tagFile-lookup}
+use Rattle.tree.specs.declared.answers.BuildAnswer.the-variants as BuildAnswer
+use Rattle.tree.specs.Tables.{parentOf, componentOf, depthOf, rankOf, lastRankOf, componentCount, numbersAt}
+use Rattle.tree.specs.Build.{tablesFit, buildOf, afterBuild, afterTags}
+use Rattle.tree.proofs.Validated.{build-built}
+use Rattle.demands.specs.Tree.{tagAt, Built, Demand2}
+
+-- The numbers of a window of an accepted plan are within a tag's limits.
+pub window-within : (file : List ℕ) → AcceptedPlan file → (v : ℕ) → v < windowCount file → withinLimit (numbersAt file v) ≡ true
+unfolding numbersAt numbersOf fieldLimit
+window-within file ok v h =
+    let small = numbers-small (interval-order file ok) v (accepted-sound file ok .few) h in
+    limit-within (numbersAt file v) (record { component = small .0; depth = small .1; rank = small .2; last = small .3 })
+
+built : (file : List ℕ) → AcceptedPlan file → (p c d r l t : ℕ) → tablesFit (windowCount file) p c d r l t ≡ true → Built file p c d r l t
+unfolding afterBuild afterTags parentOf componentOf depthOf rankOf lastRankOf
+built file ok p c d r l t fits =
+    record {
+      answer = answer;
+      parents = λ before. rw answer;
+      components = λ before. rw answer;
+      depths = λ before. rw answer;
+      ranks = λ before. rw answer;
+      last-ranks = λ before. rw answer;
+      tags = λ before. rw answer;
+    }
+  where
+    answer : buildOf file p c d r l t ≡ BuildAnswer.Built (planNumber file) (windowCount file) (componentCount file)
+    answer = sym (build-built file (validateOf file) refl _ _ ok p c d r l t (componentCount file) fits refl)
+
+-- Room in each table is room in all.
+rooms : (n p c d r l t : ℕ) → n ≤ p → n ≤ c → n ≤ d → n ≤ r → n ≤ l → 10 * n ≤ t → tablesFit n p c d r l t ≡ true
+unfolding tablesFit tagLength fieldCount
+rooms n p c d r l t hp hc hd hr hl ht =
+    rw (le-leb n p hp, le-leb n c hc, le-leb n d hd, le-leb n r hr, le-leb n l hl) (le-leb (10 * n) t ht)
+
+pub demand-2 : Demand2
+unfolding tagAt numbersAt afterWrite overwritten
+demand-2 =
+    record {
+      tree = λ file ok p c d r l t hp hc hd hr hl ht. built file ok p c d r l t (rooms (windowCount file) p c d r l t hp hc hd hr hl ht);
+      tags = λ file ok v h. rw (tagFile-lookup (numbersAt file) (windowCount file) v h) (tagBytes-read (numbersAt file v) (window-within file ok v h));
+      reads-back = written-reads-back;
+      writes-back = λ bytes t out small e room. rw (read-accepted bytes t out e room, length-tagBytes (numbers t), read-tagBytes bytes t small e);
+    }

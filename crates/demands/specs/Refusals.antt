@@ -1,0 +1,64 @@
+-- Demand 1. "A plan file, position, table or tag that breaks a rule of paper 01 is refused with the number, input and position
+-- given there, and everything lent stays untouched. Nothing else is refused. Every public call takes every input and
+-- returns."
+-- (That every call takes every input and returns is what its proof says: no public call has a `requires`, and a proved
+-- function ends.)
+-- Vocabulary: FirstNo, Refuses, Demand1.
+use Prim.Native.Nat.{ℕ}
+use mathlib.Core.Bool.{true, false}
+use mathlib.Core.Path.{_≡_}
+use mathlib.Core.Logic.{_↔_}
+use mathlib.Core.List.{List, _∷_, _++_}
+use lib.ListN.{length}
+use Rattle.interval_graph.specs.Numbers.{Numbers}
+use Rattle.wire.specs.declared.Refusal.{Refusal}
+use Rattle.wire.specs.Question.{Question}
+use Rattle.plan.specs.declared.questions.Validation.the-variants as Validation
+use Rattle.plan.specs.File.{windowCount}
+use Rattle.plan.specs.Validation.{planQuestions, validateOf}
+use Rattle.tag.specs.declared.tags.TagRead.the-variants as TagRead
+use Rattle.tag.specs.declared.writer.WriteAnswer.the-variants as WriteAnswer
+use Rattle.tag.specs.declared.lookups.LookupAnswer.the-variants as LookupAnswer
+use Rattle.tag.specs.declared.pairing.PairAnswer.the-variants as PairAnswer
+use Rattle.tag.specs.Reading.{readQuestions, readOf}
+use Rattle.tag.specs.Writing.{writeQuestions, writeOf, afterWrite}
+use Rattle.tag.specs.TagFile.{lookupQuestions, lookupOf}
+use Rattle.tag.specs.Pairs.{pairQuestions, pairOf}
+use Rattle.tree.specs.declared.answers.BuildAnswer.the-variants as BuildAnswer
+use Rattle.tree.specs.declared.answers.ReachAnswer.the-variants as ReachAnswer
+use Rattle.tree.specs.Build.{buildQuestions, buildOf, afterBuild, afterTags}
+use Rattle.tree.specs.ReachCall.{reachQuestions, reachOf}
+use Rattle.path.specs.declared.answers.ChainAnswer.the-variants as ChainAnswer
+use Rattle.path.specs.declared.answers.NeighboursAnswer.the-variants as NeighboursAnswer
+use Rattle.path.specs.declared.answers.SameAnswer.the-variants as SameAnswer
+use Rattle.path.specs.Chain.{chainBetween, chainQuestions, chainAnswerOf, afterChain}
+use Rattle.path.specs.Neighbours.{neighboursOf, neighboursQuestions, neighboursAnswerOf, afterNeighbours}
+use Rattle.path.specs.Sameness.{sameAnswerOf}
+
+-- Of questions asked in order, the first that is answered "no" gives this refusal.
+pub data FirstNo : List Question → Refusal → Type 0 where
+  here : {q : Question} {later : List Question} {r : Refusal} → q .yes ≡ false → r ≡ q .refusal → FirstNo (q ∷ later) r
+  there : {q : Question} {later : List Question} {r : Refusal} → q .yes ≡ true → FirstNo later r → FirstNo (q ∷ later) r
+
+-- An answer is a refusal exactly if that is the first "no" of the call's questions.
+abbrev pub Refuses : {A : Type 0} → List Question → (Refusal → A) → A → Type 0
+Refuses questions refused answer = (r : Refusal) → (answer ≡ refused r) ↔ FirstNo questions r
+
+pub record Demand1 : Type 0 where
+  -- Each call refuses exactly what its questions do, with their number, input and position.
+  pub validating : (file : List ℕ) → Refuses (planQuestions 0 file) Validation.Refused (validateOf file)
+  pub building : (file : List ℕ) (p c d r l t : ℕ) → Refuses (buildQuestions file p c d r l t) BuildAnswer.Refused (buildOf file p c d r l t)
+  pub reaching : (file : List ℕ) (at : ℕ) → Refuses (reachQuestions file at) ReachAnswer.Refused (reachOf file at)
+  pub chaining : (file : List ℕ) (first second room : ℕ) → Refuses (planQuestions 0 file ++ chainQuestions (windowCount file) first second (chainBetween file first second) room) ChainAnswer.Refused (chainAnswerOf file first second room)
+  pub neighbouring : (file : List ℕ) (at room : ℕ) → Refuses (planQuestions 0 file ++ neighboursQuestions (windowCount file) at (length (neighboursOf file at)) room) NeighboursAnswer.Refused (neighboursAnswerOf file at room)
+  pub comparing : (first second : List ℕ) → Refuses (planQuestions 0 first ++ planQuestions 1 second) SameAnswer.Refused (sameAnswerOf first second)
+  pub reading : (bytes : List ℕ) → Refuses (readQuestions 0 bytes) TagRead.Refused (readOf bytes)
+  pub writing : (n : Numbers) (out : List ℕ) → Refuses (writeQuestions n out) WriteAnswer.Refused (writeOf n out)
+  pub looking-up : (tags : List ℕ) (at : ℕ) → Refuses (lookupQuestions tags at) LookupAnswer.Refused (lookupOf tags at)
+  pub pairing : (first second : List ℕ) → Refuses (pairQuestions first second) PairAnswer.Refused (pairOf first second)
+  -- A refusal leaves every lent table as it was.
+  pub build-untouched : (r : Refusal) (f : ℕ → ℕ) (before : List ℕ) → afterBuild (BuildAnswer.Refused r) f before ≡ before
+  pub tags-untouched : (r : Refusal) (f : ℕ → Numbers) (before : List ℕ) → afterTags (BuildAnswer.Refused r) f before ≡ before
+  pub chain-untouched : (r : Refusal) (chain before : List ℕ) → afterChain (ChainAnswer.Refused r) chain before ≡ before
+  pub neighbours-untouched : (r : Refusal) (neighbours before : List ℕ) → afterNeighbours (NeighboursAnswer.Refused r) neighbours before ≡ before
+  pub write-untouched : (r : Refusal) (n : Numbers) (before : List ℕ) → afterWrite (WriteAnswer.Refused r) n before ≡ before
