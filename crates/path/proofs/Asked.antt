@@ -1,14 +1,13 @@
 -- The answers of `chain` and `same` after each test, over plain numbers and lists.
 -- Assumes nothing.
 use Prim.Native.Nat.{ℕ, _≤_, _<_}
-use mathlib.Core.Bool.{Bool, true, false, cond, _&&_}
-use mathlib.Core.Path.{_≡_, refl, sym, ap, _∙_}
-use mathlib.Core.List.{List, [], _∷_, _++_}
+use mathlib.Core.Bool.{Bool, true, false, cond}
+use mathlib.Core.Path.{_≡_, sym, _∙_}
+use mathlib.Core.List.{List}
 use native.Mathlib.Omega.{arith}
-use lib.ListN.{length, getD}
-use lib.Dec.{ltb, eqb}
+use lib.ListN.{getD}
+use lib.Dec.{eqb}
 use borrow.Author.Tests.{lt-ltb, le-ltb, eq-eqb, ne-eqb}
-use Rattle.interval_graph.specs.Order.{IntervalOrder}
 use Rattle.interval_graph.specs.Tree.{last}
 use Rattle.interval_graph.proofs.ShortestChain.{chain-symmetric}
 use Rattle.wire.specs.declared.Refusal.{Refusal}
@@ -17,7 +16,7 @@ use Rattle.plan.specs.declared.questions.Validation.{Validation}
 use Rattle.plan.specs.declared.questions.Validation.the-variants as Validation
 use Rattle.plan.specs.File.{windowCount}
 use Rattle.plan.specs.Overlap.{overlaps}
-use Rattle.plan.specs.Validation.{planQuestions, validateOf, AcceptedPlan}
+use Rattle.plan.specs.Validation.{validateOf, AcceptedPlan}
 use Rattle.plan.proofs.Calls.{plan-first}
 use Rattle.plan.proofs.SecondFile.{ofSecond, plan-second}
 use Rattle.tree.specs.Tables.{lastOf}
@@ -27,10 +26,10 @@ use Rattle.path.specs.declared.answers.SameAnswer.{SameAnswer}
 use Rattle.path.specs.declared.answers.SameAnswer.the-variants as SameAnswer
 use Rattle.path.specs.Questions.{positionQuestion}
 use Rattle.path.specs.Chain.{chainBetween, chainQuestions, chainAnswerOf, afterChain}
-use Rattle.path.specs.Sameness.{every, samePairs, samePlans, sameAnswerOf}
+use Rattle.path.specs.Steps.{chainRest}
+use Rattle.path.specs.Sameness.{every, samePlans, sameAnswerOf}
 use Rattle.path.proofs.Tabled.{Tabled}
 use Rattle.path.proofs.Handed.{ordered}
-use Rattle.path.proofs.Walking.{chainRest}
 use Rattle.path.proofs.Alike.{every-cong, lasts-pairs}
 
 module _ (file : List ℕ) (first second room : ℕ) where
@@ -41,7 +40,7 @@ module _ (file : List ℕ) (first second room : ℕ) where
   -- The same chain in either order of naming.
   pub between-symmetric : chainBetween file second first ≡ chainBetween file first second
   unfolding chainBetween
-  between-symmetric = chain-symmetric (windowCount file) (overlaps file) second first
+  between-symmetric = chain-symmetric _ _ second first
 
   module _ (ok : AcceptedPlan file) (windows : ℕ) (named : windows ≡ windowCount file) where
     pub chain-first-past : windows ≤ first → ChainAnswer.Refused (record { number = 7; input = 0; position = 0 }) ≡ chainAnswerOf file first second room
@@ -78,7 +77,8 @@ module _ (first second : List ℕ) where
     same-refused-second refusal e =
         sym (plan-first first _ SameAnswer.Refused _ ∙ rw ok (plan-second SameAnswer.Refused second _ ∙ rw e))
 
-    compared : AcceptedPlan second → sameAnswerOf first second ≡ cond (samePlans first second) SameAnswer.Same SameAnswer.Different
+    -- Of two accepted plans the test decides.
+    pub compared : AcceptedPlan second → sameAnswerOf first second ≡ cond (samePlans first second) SameAnswer.Same SameAnswer.Different
     unfolding sameAnswerOf
     compared ok′ = plan-first first _ SameAnswer.Refused _ ∙ rw ok (plan-second SameAnswer.Refused second _ ∙ rw ok′)
 

@@ -1,11 +1,10 @@
--- What the walk is handed, an accepted plan with its parent table: its overlap is in interval order, and each entry is a parent.
+-- What the walk is handed, an accepted plan with its parent table: it has few windows, and each entry is a parent.
 -- Assumes nothing.
 use Prim.Native.Nat.{ℕ, _≤_, _<_}
-use mathlib.Core.Path.{_≡_, sym, _∙_}
+use mathlib.Core.Path.{_≡_}
 use mathlib.Core.List.{List}
 use native.Mathlib.Omega.{arith}
 use lib.ListN.{length, getD}
-use Rattle.sequences.specs.Table.{Holds}
 use Rattle.interval_graph.specs.Order.{IntervalOrder}
 use Rattle.interval_graph.specs.Tree.{parent}
 use Rattle.plan.specs.File.{windowCount}
@@ -23,9 +22,6 @@ pub plan-few : (file : List ℕ) (windows : ℕ) → AcceptedPlan file → windo
 plan-few file windows ok counted = omega (arith, accepted-sound file ok .few)
 
 module _ {file : List ℕ} {windows : ℕ} {parents : List ℕ} (p : Parented file windows parents) where
-  pub handed-order : IntervalOrder windows (overlaps file)
-  handed-order = ordered file windows (p .accepted) (p .counted)
-
   pub handed-few : windows ≤ 2048
   handed-few = plan-few file windows (p .accepted) (p .counted)
 

@@ -7,6 +7,8 @@
 --   Listing   the pass that lists the windows which overlap one
 --   Alike     two plans that are the same, by lasts and by numbers
 --   Asked     the answers of `chain` and `same` after each test
+--   Meaning   what the answers say, in the paper's words
+--   Plan12    the paper's plan, computed
 pub mod Sharing
 pub mod Tabled
 pub mod Handed
@@ -15,3 +17,5 @@ pub mod Walking
 pub mod Listing
 pub mod Alike
 pub mod Asked
+pub mod Meaning
+pub mod Plan12

@@ -2,13 +2,12 @@
 -- numbers and lists.
 -- Vocabulary: Counted, Listed.
 -- Assumes nothing.
-use Prim.Native.Nat.{ℕ, suc, _+_, _≤_, _<_}
+use Prim.Native.Nat.{ℕ, _+_, _≤_, _<_}
 use mathlib.Core.Bool.{Bool, true, false}
 use mathlib.Core.Path.{_≡_, refl, sym, ap, _∙_}
-use mathlib.Core.List.{List, [], _∷_, _++_}
+use mathlib.Core.List.{List, [], _∷_}
 use native.Mathlib.Omega.{arith}
 use lib.ListN.{length, set, length-append}
-use lib.Dec.{ltb, leb}
 use borrow.Author.Tests.{lt-ltb, le-ltb, le-leb, lt-leb}
 use Rattle.sequences.specs.Search.{passing}
 use Rattle.sequences.specs.Table.{overwritten}
@@ -21,10 +20,9 @@ use Rattle.plan.specs.File.{windowCount}
 use Rattle.plan.specs.Overlap.{overlaps}
 use Rattle.plan.specs.Validation.{validateOf}
 use Rattle.plan.proofs.Calls.{plan-first, accepted-numbers}
-use Rattle.path.specs.declared.answers.NeighboursAnswer.{NeighboursAnswer}
 use Rattle.path.specs.declared.answers.NeighboursAnswer.the-variants.{Neighbours, Refused}
 use Rattle.path.specs.Questions.{positionQuestion, roomQuestion}
-use Rattle.path.specs.Neighbours.{neighboursOf, neighboursQuestions, neighboursAnswerOf, afterNeighbours}
+use Rattle.path.specs.Neighbours.{neighboursOf, neighboursQuestions, neighboursAnswerOf}
 
 -- Before the position v of n: so many passed the test.
 pub record Counted (p : ℕ → Bool) (n found v : ℕ) : Type 0 where

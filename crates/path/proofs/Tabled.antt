@@ -3,11 +3,10 @@
 -- Vocabulary: Tabled.
 -- Assumes nothing.
 use Prim.Native.Nat.{ℕ, _≤_}
-use mathlib.Core.Path.{_≡_, refl, sym, ap, _∙_}
-use mathlib.Core.List.{List, [], _∷_}
+use mathlib.Core.Path.{_≡_, refl, sym, _∙_}
+use mathlib.Core.List.{List}
 use native.Mathlib.Omega.{arith}
 use lib.ListN.{length}
-use lib.Dec.{leb}
 use borrow.Author.Tests.{le-leb}
 use Rattle.sequences.specs.Table.{Holds}
 use Rattle.sequences.proofs.Table.{overwritten-holds}
@@ -78,5 +77,5 @@ tabled file f before after answer windows enough e filled w =
     }
 
 -- With the table of parents the walk can begin.
-pub tabled-parents : {file : List ℕ} {windows : ℕ} {parents : List ℕ} → Tabled file windows (parentOf file) parents → Parented file windows parents
-tabled-parents t = record { accepted = t .accepted; counted = t .counted; parents-held = t .held }
+pub tabled-parents : {file : List ℕ} {windows : ℕ} {parents : List ℕ} → Tabled file windows (parentOf file) parents → Parented file (windowCount file) parents
+tabled-parents t = record { accepted = t .accepted; counted = refl; parents-held = rw (t .counted) at (t .held) }

@@ -65,5 +65,6 @@ pub fn neighbours(file: &[u8], at: usize, out: &mut [u16]) -> NeighboursAnswer
         return NeighboursAnswer::Refused(refusal(8, 0));
     }
     write_neighbours(file, windows as usize, at, out);
-    NeighboursAnswer::Neighbours(found as u16)
+    let listed = found as u16;
+    NeighboursAnswer::Neighbours(listed)
 }

@@ -3,6 +3,7 @@ mod adjacency;
 mod answers;
 mod chains;
 mod comparison;
+mod walk;
 mod windows;
 
 pub use adjacency::neighbours;

@@ -4,17 +4,14 @@
 -- Assumes nothing.
 use Prim.Native.Nat.{ℕ, zero, suc}
 use mathlib.Core.Bool.{Bool, true, false}
-use mathlib.Core.Path.{_≡_, refl, sym, ap, _∙_}
-use mathlib.Core.Logic.{⊎-elim}
-use mathlib.Core.List.{List, [], _∷_, _++_}
-use Rattle.sequences.proofs.Tests.{truth}
+use mathlib.Core.Path.{_≡_, refl, sym, _∙_}
+use mathlib.Core.List.{List, [], _∷_}
 use Rattle.wire.specs.declared.Refusal.{Refusal}
 use Rattle.wire.specs.Question.{Question, question, firstNo}
-use Rattle.wire.proofs.Question.{first-append, first-map}
-use Rattle.plan.specs.declared.questions.Validation.{Validation}
+use Rattle.wire.proofs.Question.{first-map}
 use Rattle.plan.specs.declared.questions.Validation.the-variants.{Accepted, Refused}
-use Rattle.plan.specs.File.{planNumber, windowCount, windowAt}
-use Rattle.plan.specs.Validation.{offsetBefore, windowQuestions, fileQuestions, questionsFrom, planQuestions, validateOf}
+use Rattle.plan.specs.File.{planNumber, windowCount}
+use Rattle.plan.specs.Validation.{windowQuestions, fileQuestions, questionsFrom, planQuestions, validateOf}
 use Rattle.plan.proofs.Calls.{afterValidation}
 
 -- A refusal with the second input at fault.

@@ -55,8 +55,8 @@ write-neighbours-requires : tie.Need-write-neighbours-requires
 write-neighbours-requires c κs = let e = sym (c .before .before .before .before .before .windows .given .1) ∙ c .before .before .before .before .before .before .before .validate .ensures in
     (accepted-plan _ _ _ e, (accepted-numbers _ _ _ e .1, (c .before .before .before .if1 .left, omega (arith, c .before .before .count-neighbours .ensures, c .before .if2 .left))))
 
-cast-t17 : tie.Need-cast-t17
-cast-t17 c = let d = c .before .before .before .before .before .before .before .before .before .before .before .before .before in
+cast-listed : tie.Need-cast-listed
+cast-listed c = let d = c .before .before .before .before .before .before .before .before .before .before .before .before .before in
     let e = sym (c .before .before .before .before .before .before .before .before .windows .given .1) ∙ c .before .before .before .before .before .before .before .before .before .before .validate .ensures in
     let named = accepted-numbers _ _ _ e .1 in
     omega (arith, plan-few (now (d .args .file)) _ (accepted-plan _ _ _ e) named, neighbours-few (now (d .args .file)) _ (d .args .at) named, c .before .before .before .before .before .count-neighbours .ensures)
@@ -85,6 +85,6 @@ neighbours-spec =
     returns-3
     cast-write-neighbours
     write-neighbours-requires
-    cast-t17
+    cast-listed
     same-length
     returns-4)

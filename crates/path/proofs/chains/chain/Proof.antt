@@ -3,7 +3,6 @@
 -- Assumes nothing.
 use mathlib.Core.Path.{refl}
 use native.Mathlib.Omega.{arith}
-use Rattle.tree.specs.Tables.{parentOf}
 use Rattle.path.specs.Chain.{afterChain}
 use Rattle.path.proofs.Tabled.{tabled, tabled-parents, table-refuses}
 use Rattle.path.proofs.Asked.{chain-refused, chain-first-past, chain-second-past, chain-asked, chain-asked-turned}
@@ -51,7 +50,7 @@ slice-aggregate-write-between c = search needs
 
 write-between-requires : tie.Need-write-between-requires
 write-between-requires c κs = let t = tabled _ _ _ _ _ _ (omega arith) (c .before .before .before .before .before .before .before .before .before .parent-table .ensures .0) (c .before .before .before .before .before .before .windows .given .1) (c .before .before .before .before .before .before .before .before .before .parent-table .ensures .1) in
-    (tabled-parents t, (omega (arith, c .before .before .if3 .taken), c .before .before .before .if2 .left))
+    (tabled-parents t, (omega (arith, c .before .before .if3 .taken), omega (arith, t .counted, c .before .before .before .if2 .left)))
 
 same-length : tie.Need-same-length
 same-length c = search needs
@@ -65,7 +64,7 @@ slice-aggregate-write-between-2 c = search needs
 
 write-between-requires-2 : tie.Need-write-between-requires-2
 write-between-requires-2 c κs = let t = tabled _ _ _ _ _ _ (omega arith) (c .before .before .before .before .before .before .before .before .before .parent-table .ensures .0) (c .before .before .before .before .before .before .windows .given .1) (c .before .before .before .before .before .before .before .before .before .parent-table .ensures .1) in
-    (tabled-parents t, (c .before .before .if3 .left, c .before .before .before .before .if1 .left))
+    (tabled-parents t, (c .before .before .if3 .left, omega (arith, t .counted, c .before .before .before .before .if1 .left)))
 
 same-length-2 : tie.Need-same-length-2
 same-length-2 c = search needs

@@ -1,28 +1,29 @@
--- `path::chains::climb_steps` meets its contract. The loop's invariant is `Climbing`; the measure is the position, which each step
+-- `path::walk::climb_steps` meets its contract. The loop's invariant is `Climbing`; the measure is the position, which each step
 -- lowers.
 -- Assumes nothing.
 use mathlib.Core.Path.{sym, _∙_}
 use native.Mathlib.Omega.{arith}
 use denote.Ref.{now}
+use Rattle.plan.specs.File.{windowCount}
 use Rattle.plan.specs.Overlap.{overlaps}
 use Rattle.interval_graph.proofs.Parent.{parent-le}
 use Rattle.path.proofs.Handed.{handed-few, handed-long, handed-parent}
 use Rattle.path.proofs.Climbing.{Climbing, past-true, past-false, climbing-start, climbing-turn, climbing-arrived, climbing-root}
 use borrow.Author.Needs.{needs}
-use Rattle.path.proofs.chains.climb_steps.Statement.{statement}
-use Rattle.path.proofs.chains.climb_steps.Tie as tie
+use Rattle.path.proofs.walk.climb_steps.Statement.{statement}
+use Rattle.path.proofs.walk.climb_steps.Tie as tie
 
 abbrev Inv-loop : tie.InvT-loop
-Inv-loop file windows parents earlier later at₀ steps₀ at steps = Climbing windows (overlaps file) earlier later at steps
+Inv-loop file parents earlier later at₀ steps₀ at steps = Climbing (windowCount file) (overlaps file) earlier later at steps
 
 abbrev μ-loop : tie.MeasureT-loop
-μ-loop file windows parents earlier later at₀ steps₀ at steps = at
+μ-loop file parents earlier later at₀ steps₀ at steps = at
 
 loop-holds : tie.Need-loop-holds Inv-loop μ-loop
 loop-holds c = climbing-start _ _ _ _
 
 is-past-requires : tie.Need-is-past-requires Inv-loop μ-loop
-is-past-requires c κs = let d = c .before .before .before in (d .pre .0, (d .pre .1 .0, omega (arith, c .loop .inv .fell)))
+is-past-requires c κs = let d = c .before .before .before in (d .pre .0 .accepted, (d .pre .1 .0, omega (arith, c .loop .inv .fell)))
 
 mul-parent : tie.Need-mul-parent Inv-loop μ-loop
 mul-parent c = search needs

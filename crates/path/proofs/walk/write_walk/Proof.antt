@@ -1,20 +1,19 @@
--- `path::chains::write_walk` meets its contract. The loop's invariant is `Stepping`; the measure is what is left of the steps.
+-- `path::walk::write_walk` meets its contract. The loop's invariant is `Stepping`; the measure is what is left of the steps.
 -- Assumes nothing.
 use Prim.Native.Nat.{_-_}
 use native.Mathlib.Omega.{arith}
 use lib.ListN.{length-set}
-use Rattle.plan.specs.Overlap.{overlaps}
 use Rattle.path.proofs.Handed.{handed-few, handed-long, handed-parent}
 use Rattle.path.proofs.Walking.{Stepping, stepping-start, stepping-low, stepping-turn, stepping-end}
 use borrow.Author.Needs.{needs}
-use Rattle.path.proofs.chains.write_walk.Statement.{statement}
-use Rattle.path.proofs.chains.write_walk.Tie as tie
+use Rattle.path.proofs.walk.write_walk.Statement.{statement}
+use Rattle.path.proofs.walk.write_walk.Tie as tie
 
 abbrev Inv-loop : tie.InvT-loop
-Inv-loop file windows parents earlier later steps out₀ at₀ step₀ out at step = Stepping (overlaps file) later steps out₀ out at step
+Inv-loop file parents earlier later steps out₀ at₀ step₀ out at step = Stepping file later steps out₀ out at step
 
 abbrev μ-loop : tie.MeasureT-loop
-μ-loop file windows parents earlier later steps out₀ at₀ step₀ out at step = steps - step
+μ-loop file parents earlier later steps out₀ at₀ step₀ out at step = steps - step
 
 loop-holds : tie.Need-loop-holds Inv-loop μ-loop
 loop-holds c = stepping-start _ _ _ _
@@ -62,7 +61,7 @@ same-length c = simp length-set (c .before .loop .inv .list .long)
 
 returns : tie.Need-returns Inv-loop μ-loop
 returns c = let d = c .before .before in
-    stepping-end _ _ _ _ _ _ _ (c .before .loop .inv) (d .args .windows) _ (c .loop-test .left) (d .pre .1 .1 .1)
+    stepping-end _ _ _ _ _ _ _ (c .before .loop .inv) _ (c .loop-test .left) (d .pre .1 .1 .1)
 
 pub write-walk-spec : {M : Type 1} → statement M
 write-walk-spec =

@@ -1,0 +1,66 @@
+-- What the answers say of an accepted plan, in the paper's words: the chain is a shortest one with the earliest window at each
+-- step, and empty exactly if no chain joins the two; the neighbours are the windows that overlap, and never the window itself;
+-- and two plans are answered to be the same exactly if they have equal n and every window has the same numbers.
+-- Assumes nothing.
+use Prim.Native.Nat.{ℕ, _<_}
+use mathlib.Core.Bool.{true, cond}
+use mathlib.Core.Path.{_≡_, sym, _∙_}
+use mathlib.Core.Logic.{⊎-elim, _↔_}
+use mathlib.Core.List.{List, [], List·Memᴰ}
+use native.Mathlib.Omega.{arith}
+use Rattle.sequences.proofs.Tests.{truth, true-false-absurd}
+use Rattle.sequences.proofs.Passing.{passing-sound, passing-complete}
+use Rattle.interval_graph.specs.Chain.{Joined, EarliestShortest}
+use Rattle.interval_graph.proofs.ShortestChain.{chain-earliest-shortest, chain-empty-iff-apart}
+use Rattle.interval_graph.proofs.Sameness.{SameNumbers}
+use Rattle.plan.specs.File.{windowCount}
+use Rattle.plan.specs.Overlap.{overlaps}
+use Rattle.plan.specs.Validation.{AcceptedPlan}
+use Rattle.plan.proofs.Overlap.{interval-order}
+use Rattle.path.specs.declared.answers.SameAnswer.the-variants.{Same, Different}
+use Rattle.path.specs.Chain.{chainBetween}
+use Rattle.path.specs.Neighbours.{neighboursOf}
+use Rattle.path.specs.Sameness.{samePlans, sameAnswerOf}
+use Rattle.path.proofs.Alike.{same-iff-numbers}
+use Rattle.path.proofs.Asked.{compared}
+
+module _ (file : List ℕ) (ok : AcceptedPlan file) where
+  module _ (a b : ℕ) (within : a < windowCount file) (within′ : b < windowCount file) where
+    -- The chain between two windows that some chain joins is a shortest, with the earliest window at each step.
+    pub chain-between-best : Joined (windowCount file) (overlaps file) a b → EarliestShortest (windowCount file) (overlaps file) a b (chainBetween file a b)
+    unfolding chainBetween
+    chain-between-best j = chain-earliest-shortest (interval-order file ok) a b within within′ j
+
+    -- There is none exactly if no chain joins them.
+    pub chain-between-none : (chainBetween file a b ≡ []) ↔ (Joined (windowCount file) (overlaps file) a b → ⊥)
+    unfolding chainBetween
+    chain-between-none = chain-empty-iff-apart (interval-order file ok) a b within within′
+
+  -- A window is never its own neighbour.
+  pub neighbour-other : (at : ℕ) → List·Memᴰ at (neighboursOf file at) → ⊥
+  unfolding neighboursOf
+  neighbour-other at m =
+      true-false-absurd (overlaps file at at) (passing-sound (overlaps file at) 0 (windowCount file) at m .2) (interval-order file ok .irreflexive at)
+
+-- The neighbours are the windows that overlap.
+pub neighbour-iff-overlaps : (file : List ℕ) (at v : ℕ) → List·Memᴰ v (neighboursOf file at) ↔ ((v < windowCount file) × (overlaps file at v ≡ true))
+unfolding neighboursOf
+neighbour-iff-overlaps file at v = (
+  λ m. let s = passing-sound (overlaps file at) 0 (windowCount file) v m in (omega (arith, s .1), s .2),
+  λ h. passing-complete (overlaps file at) 0 (windowCount file) v (omega arith) (omega arith) (h .1),
+)
+
+different-not-same : Different ≡ Same → ⊥
+different-not-same e = let z : _≡_ {A = ℕ} 0 1 = cc in omega arith
+
+-- Two accepted plans are answered to be the same exactly if they have equal n and each window's component, depth, rank and
+-- rank of the last are the same.
+pub same-answer-iff-numbers : (first second : List ℕ) → AcceptedPlan first → AcceptedPlan second → (sameAnswerOf first second ≡ Same) ↔ ((windowCount first ≡ windowCount second) × SameNumbers (windowCount first) (overlaps first) (overlaps second))
+same-answer-iff-numbers first second ok ok′ = (
+  λ e. ⊎-elim (λ t. same-iff-numbers first second ok ok′ .0 t)
+      (λ t. absurd (different-not-same (sym (rw t at answer) ∙ e))) (truth (samePlans first second)),
+  λ s. rw (same-iff-numbers first second ok ok′ .1 s) at answer,
+)
+  where
+    answer : sameAnswerOf first second ≡ cond (samePlans first second) Same Different
+    answer = compared first second ok ok′

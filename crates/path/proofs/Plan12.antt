@@ -1,0 +1,45 @@
+-- Paper 01's plan 12, from its bytes: chains, neighbours and sameness come out of the definitions by computation.
+-- Assumes nothing.
+use mathlib.Core.Path.{_≡_, refl}
+use mathlib.Core.List.{[], _∷_}
+use Rattle.interval_graph.specs.Walk.{climb, walk, chainOf}
+use Rattle.sequences.specs.Search.{passing}
+use Rattle.plan.proofs.Plan12.{file, meaning}
+use Rattle.path.specs.declared.answers.ChainAnswer.the-variants.{Chain, NoChain, Refused}
+use Rattle.path.specs.declared.answers.NeighboursAnswer.the-variants as NeighboursAnswer
+use Rattle.path.specs.declared.answers.SameAnswer.the-variants as SameAnswer
+use Rattle.path.specs.Questions.{positionQuestion, roomQuestion}
+use Rattle.path.specs.Chain.{chainBetween, chainQuestions, chainFound, chainAnswerOf}
+use Rattle.path.specs.Neighbours.{neighboursOf, neighboursQuestions, neighboursAnswerOf}
+use Rattle.path.specs.Sameness.{every, samePairs, samePlans, sameAnswerOf}
+
+-- What a computation on the file opens.
+unfoldable answers : Unit {0}
+unfolding meaning climb walk chainOf passing positionQuestion roomQuestion chainBetween chainQuestions chainFound chainAnswerOf neighboursOf neighboursQuestions neighboursAnswerOf every samePairs samePlans sameAnswerOf
+answers = tt
+
+-- "0 to 5 is 3, chain 5 4 2 0 … 3 to 5 is 3, chain 5 4 2 3 … 1 to 3 is 2, chain 3 0 1 … 5 to 6: no chain."
+pub plan-12-chain : chainBetween file 0 5 ≡ 5 ∷ 4 ∷ 2 ∷ 0 ∷ []
+unfolding answers
+plan-12-chain = refl
+
+pub plan-12-chain-across : chainBetween file 3 5 ≡ 5 ∷ 4 ∷ 2 ∷ 3 ∷ []
+unfolding answers
+plan-12-chain-across = refl
+
+pub plan-12-chain-level : chainBetween file 1 3 ≡ 3 ∷ 0 ∷ 1 ∷ []
+unfolding answers
+plan-12-chain-level = refl
+
+-- In a table of four entries, in one of three, of two components, and of a position that the plan does not have.
+pub plan-12-answers : (chainAnswerOf file 0 5 4 ≡ Chain 4) × (chainAnswerOf file 0 5 3 ≡ Refused (record { number = 8; input = 0; position = 0 })) × (chainAnswerOf file 5 6 0 ≡ NoChain) × (chainAnswerOf file 6 7 9 ≡ Refused (record { number = 7; input = 1; position = 0 }))
+unfolding answers
+plan-12-answers = (refl, refl, refl, refl)
+
+pub plan-12-neighbours : (neighboursOf file 2 ≡ 0 ∷ 1 ∷ 3 ∷ 4 ∷ []) × (neighboursOf file 6 ≡ []) × (neighboursAnswerOf file 2 4 ≡ NeighboursAnswer.Neighbours 4)
+unfolding answers
+plan-12-neighbours = (refl, refl, refl)
+
+pub plan-12-same : sameAnswerOf file file ≡ SameAnswer.Same
+unfolding answers
+plan-12-same = refl

@@ -1,0 +1,21 @@
+-- `path::walk::is_past` meets its contract: a window not behind the earlier one is not past its last, and one behind it is past
+-- exactly if the two do not overlap.
+-- Assumes nothing.
+use native.Mathlib.Omega.{arith}
+use Rattle.plan.proofs.Overlap.{interval-order}
+use Rattle.path.proofs.Climbing.{past-not, past-apart}
+use Rattle.path.proofs.walk.is_past.Statement.{statement}
+use Rattle.path.proofs.walk.is_past.Tie as tie
+
+returns : tie.Need-returns
+returns c = past-not (interval-order _ (c .before .before .pre .0)) _ _ (c .if1 .taken)
+
+overlapping-requires : tie.Need-overlapping-requires
+overlapping-requires c κs = let d = c .before .before in (d .pre .0, (omega arith, omega arith))
+
+returns-2 : tie.Need-returns-2
+returns-2 c = let d = c .before .before .before in
+    past-apart (interval-order _ (d .pre .0)) _ _ _ (c .before .if1 .left) (d .pre .1 .1) (c .overlapping .ensures)
+
+pub is-past-spec : {M : Type 1} → statement M
+is-past-spec = tie.close (tie.spec returns overlapping-requires returns-2)
