@@ -1,0 +1,283 @@
+//! The same algorithms by hand in Rust, as one would write them for release: slices, iterators where they spare a bounds
+//! check, fixed scratch on the stack, the same questions and the same answers.
+use std::cmp::{max, min};
+
+#[derive(Clone, Copy, PartialEq, Eq, Debug)]
+pub struct Refusal {
+    pub number: u8,
+    pub input: u8,
+    pub position: u16,
+}
+
+fn no<T>(number: u8, input: u8, position: usize) -> Result<T, Refusal> {
+    Err(Refusal { number, input, position: position as u16 })
+}
+
+const MOST: usize = 2048;
+
+fn two(bytes: &[u8], at: usize) -> u16 {
+    u16::from_le_bytes([bytes[at], bytes[at + 1]])
+}
+
+/// Offset and length.
+fn window(pair: &[u8]) -> (u32, u32) {
+    let number = |four: &[u8]| u32::from_le_bytes(four.try_into().unwrap());
+    (number(&pair[..4]), number(&pair[4..8]))
+}
+
+/// The plan number and the pairs of a file that meets no refusal.
+fn validate(file: &[u8]) -> Result<(u16, &[u8]), Refusal> {
+    if file.len() < 4 {
+        return no(1, 0, 0);
+    }
+    let windows = two(file, 2) as usize;
+    if windows > MOST {
+        return no(2, 0, 0);
+    }
+    let (head, pairs) = file.split_at(4);
+    if pairs.len() != 8 * windows {
+        return no(3, 0, 0);
+    }
+    let mut before = 0;
+    for (position, pair) in pairs.chunks_exact(8).enumerate() {
+        let (offset, length) = window(pair);
+        if length < 1 {
+            return no(4, 0, position);
+        }
+        if offset as u64 + length as u64 > 10_000_000 {
+            return no(5, 0, position);
+        }
+        if offset < before {
+            return no(6, 0, position);
+        }
+        before = offset;
+    }
+    Ok((two(head, 0), pairs))
+}
+
+struct Spans {
+    offsets: [u32; MOST],
+    ends: [u32; MOST],
+}
+
+fn spans(pairs: &[u8]) -> Spans {
+    let mut spans = Spans { offsets: [0; MOST], ends: [0; MOST] };
+    let places = spans.offsets.iter_mut().zip(&mut spans.ends);
+    for (pair, (offset, end)) in pairs.chunks_exact(8).zip(places) {
+        let (start, length) = window(pair);
+        *offset = start;
+        *end = start + length;
+    }
+    spans
+}
+
+fn find_parents(offsets: &[u32], ends: &[u32], parents: &mut [u16]) {
+    let mut parent = 0;
+    for (v, (&offset, entry)) in offsets.iter().zip(parents).enumerate() {
+        while parent < v && ends[parent] <= offset {
+            parent += 1;
+        }
+        *entry = parent as u16;
+    }
+}
+
+/// Answers with the number of components.
+fn number_levels(parents: &[u16], components: &mut [u16], depths: &mut [u16]) -> u16 {
+    let mut roots = 0;
+    for (v, (&parent, component)) in parents.iter().zip(components).enumerate() {
+        let parent = parent as usize;
+        if parent == v {
+            roots += 1;
+            depths[v] = 0;
+        } else {
+            depths[v] = depths[parent] + 1;
+        }
+        *component = roots - 1;
+    }
+    roots
+}
+
+fn find_ranks(parents: &[u16], ranks: &mut [u16]) {
+    let (mut sizes, mut next) = ([1u16; MOST], [0u16; MOST]);
+    for (v, &parent) in parents.iter().enumerate().rev() {
+        if (parent as usize) < v {
+            sizes[parent as usize] += sizes[v];
+        }
+    }
+    for (v, (&parent, rank)) in parents.iter().zip(ranks).enumerate() {
+        let parent = parent as usize;
+        let mut start = 0;
+        if parent != v {
+            start = next[parent];
+            next[parent] += sizes[v];
+        }
+        next[v] = start;
+        *rank = start + sizes[v] - 1;
+    }
+}
+
+fn rank_lasts(offsets: &[u32], ends: &[u32], ranks: &[u16], last_ranks: &mut [u16]) {
+    for (v, (&end, entry)) in ends.iter().zip(last_ranks).enumerate() {
+        let later = offsets[v..].partition_point(|&offset| offset < end);
+        *entry = ranks[v + later - 1];
+    }
+}
+
+fn write_tags(plan: u16, tables: [&[u16]; 4], tags: &mut [u8]) {
+    let [components, depths, ranks, last_ranks] = tables;
+    let numbers = components.iter().zip(depths).zip(ranks).zip(last_ranks);
+    for (tag, (((component, depth), rank), last)) in tags.chunks_exact_mut(10).zip(numbers) {
+        for (two, number) in tag.chunks_exact_mut(2).zip([plan, *component, *depth, *rank, *last]) {
+            two.copy_from_slice(&number.to_le_bytes());
+        }
+    }
+}
+
+/// Plan number, windows, components.
+#[no_mangle]
+#[inline(never)]
+pub fn hand_build(file: &[u8], tables: [&mut [u16]; 5], tags: &mut [u8]) -> Result<(u16, u16, u16), Refusal> {
+    let (plan, pairs) = validate(file)?;
+    let n = pairs.len() / 8;
+    if tables.iter().any(|table| table.len() < n) || tags.len() < 10 * n {
+        return no(8, 0, 0);
+    }
+    let [parents, components, depths, ranks, last_ranks] = tables.map(|table| &mut table[..n]);
+    let spans = spans(pairs);
+    let (offsets, ends) = (&spans.offsets[..n], &spans.ends[..n]);
+    find_parents(offsets, ends, parents);
+    let count = number_levels(parents, components, depths);
+    find_ranks(parents, ranks);
+    rank_lasts(offsets, ends, ranks, last_ranks);
+    write_tags(plan, [components, depths, ranks, last_ranks], tags);
+    Ok((plan, n as u16, count))
+}
+
+#[derive(Clone, Copy, PartialEq)]
+struct Tag {
+    plan: u16,
+    component: u16,
+    depth: u16,
+    rank: u16,
+    last: u16,
+}
+
+fn read_tag(bytes: &[u8], input: u8) -> Result<Tag, Refusal> {
+    if bytes.len() != 10 {
+        return no(9, input, 0);
+    }
+    let field = |i: usize| two(bytes, 2 * i);
+    let tag = Tag { plan: field(0), component: field(1), depth: field(2), rank: field(3), last: field(4) };
+    if max(max(tag.component, tag.depth), max(tag.rank, tag.last)) > 2047 {
+        return no(10, input, 0);
+    }
+    Ok(tag)
+}
+
+/// The number of handovers, or none where no chain joins the windows.
+#[no_mangle]
+#[inline(never)]
+pub fn hand_pair(first: &[u8], second: &[u8]) -> Result<Option<u16>, Refusal> {
+    let a = read_tag(first, 0)?;
+    let b = read_tag(second, 1)?;
+    if a.plan != b.plan {
+        return no(11, 1, 0);
+    }
+    if a == b {
+        return Ok(Some(0));
+    }
+    if a.component != b.component {
+        return Ok(None);
+    }
+    if a.rank == b.rank {
+        return no(12, 1, 0);
+    }
+    let (u, v) = if (a.depth, a.rank) < (b.depth, b.rank) { (a, b) } else { (b, a) };
+    let levels = v.depth - u.depth;
+    let count = if u.rank < v.rank {
+        if v.rank <= u.last || u.last < u.rank { levels + 1 } else { levels + 2 }
+    } else if v.rank <= u.last && u.last < u.rank {
+        levels
+    } else {
+        levels + 1
+    };
+    Ok(Some(count))
+}
+
+fn overlap(u: (u32, u32), v: (u32, u32)) -> bool {
+    max(u.0, v.0) < min(u.0 + u.1, v.0 + v.1)
+}
+
+fn window_at(pairs: &[u8], v: usize) -> (u32, u32) {
+    window(&pairs[8 * v..8 * v + 8])
+}
+
+/// How many entries were written, or none where there is no chain.
+#[no_mangle]
+#[inline(never)]
+pub fn hand_chain(file: &[u8], first: usize, second: usize, out: &mut [u16]) -> Result<Option<u16>, Refusal> {
+    let (_, pairs) = validate(file)?;
+    let n = pairs.len() / 8;
+    if first >= n {
+        return no(7, 0, 0);
+    }
+    if second >= n {
+        return no(7, 1, 0);
+    }
+    let spans = spans(pairs);
+    let mut parents = [0; MOST];
+    find_parents(&spans.offsets[..n], &spans.ends[..n], &mut parents[..n]);
+    let (earlier, later) = (min(first, second), max(first, second));
+    let Some(steps) = steps_before(pairs, &parents, earlier, later) else { return Ok(None) };
+    if out.len() <= steps {
+        return no(8, 0, 0);
+    }
+    let mut at = later;
+    for entry in &mut out[..steps] {
+        *entry = at as u16;
+        at = parents[at] as usize;
+    }
+    out[steps] = earlier as u16;
+    Ok(Some(steps as u16 + 1))
+}
+
+/// How many windows stand before the earlier one on the chain.
+fn steps_before(pairs: &[u8], parents: &[u16; MOST], earlier: usize, later: usize) -> Option<usize> {
+    if earlier == later {
+        return Some(0);
+    }
+    let target = window_at(pairs, earlier);
+    let (mut at, mut steps) = (later, 1);
+    while at > earlier && !overlap(target, window_at(pairs, at)) {
+        let parent = parents[at] as usize;
+        if parent == at {
+            return None;
+        }
+        at = parent;
+        steps += 1;
+    }
+    Some(steps)
+}
+
+/// How many positions were written.
+#[no_mangle]
+#[inline(never)]
+pub fn hand_neighbours(file: &[u8], at: usize, out: &mut [u16]) -> Result<u16, Refusal> {
+    let (_, pairs) = validate(file)?;
+    if at >= pairs.len() / 8 {
+        return no(7, 0, 0);
+    }
+    let own = window_at(pairs, at);
+    let found = || {
+        let others = pairs.chunks_exact(8).enumerate();
+        others.filter(move |&(v, pair)| v != at && overlap(own, window(pair))).map(|(v, _)| v as u16)
+    };
+    let count = found().count();
+    if out.len() < count {
+        return no(8, 0, 0);
+    }
+    for (entry, v) in out.iter_mut().zip(found()) {
+        *entry = v;
+    }
+    Ok(count as u16)
+}

@@ -1,0 +1,87 @@
+//! The plans that are measured, made from fixed seeds.
+use crate::hand;
+
+#[derive(Clone, Copy)]
+pub enum Shape {
+    /// About half of all pairs overlap.
+    Dense,
+    /// Each window overlaps few others, and there are many components.
+    Sparse,
+    /// Each window overlaps the next two: one component, long chains.
+    Staircase,
+}
+
+pub const SHAPES: [Shape; 3] = [Shape::Dense, Shape::Sparse, Shape::Staircase];
+
+impl Shape {
+    pub fn name(self) -> &'static str {
+        match self {
+            Shape::Dense => "dense",
+            Shape::Sparse => "sparse",
+            Shape::Staircase => "staircase",
+        }
+    }
+}
+
+/// How many plans of a shape are gone through in turn: with one alone the processor learns its branches by heart.
+pub const PLANS: usize = 16;
+
+pub struct Case {
+    pub name: &'static str,
+    pub n: usize,
+    /// The windows of the first plan, which the searches go through.
+    pub windows: Vec<(u32, u32)>,
+    pub files: Vec<Vec<u8>>,
+    /// Random pairs of positions.
+    pub queries: Vec<(usize, usize)>,
+}
+
+struct Random(u64);
+
+impl Random {
+    fn below(&mut self, limit: u32) -> u32 {
+        self.0 ^= self.0 << 13;
+        self.0 ^= self.0 >> 7;
+        self.0 ^= self.0 << 17;
+        ((self.0 >> 32) * limit as u64 >> 32) as u32
+    }
+}
+
+fn windows_of(shape: Shape, n: usize, random: &mut Random) -> Vec<(u32, u32)> {
+    let size = n as u32;
+    let mut windows: Vec<(u32, u32)> = match shape {
+        Shape::Dense => (0..n).map(|_| (random.below(size), 1 + random.below(size))).collect(),
+        Shape::Sparse => (0..n).map(|_| (random.below(10 * size), 1 + random.below(20))).collect(),
+        Shape::Staircase => (0..size).map(|i| (10 * i, 21 + random.below(9))).collect(),
+    };
+    windows.sort_by_key(|window| window.0);
+    windows
+}
+
+fn file_of(windows: &[(u32, u32)]) -> Vec<u8> {
+    let mut file = vec![12, 0, (windows.len() % 256) as u8, (windows.len() / 256) as u8];
+    for (offset, length) in windows {
+        file.extend(offset.to_le_bytes());
+        file.extend(length.to_le_bytes());
+    }
+    file
+}
+
+impl Case {
+    pub fn new(shape: Shape, n: usize) -> Case {
+        let mut random = Random(0x9e37_79b9_7f4a_7c15 ^ n as u64);
+        let plans: Vec<Vec<(u32, u32)>> = (0..PLANS).map(|_| windows_of(shape, n, &mut random)).collect();
+        let mut position = || random.below(n as u32) as usize;
+        let queries = (0..1024).map(|_| (position(), position())).collect();
+        let files = plans.iter().map(|windows| file_of(windows)).collect();
+        Case { name: shape.name(), n, windows: plans[0].clone(), files, queries }
+    }
+}
+
+pub fn tags_of(case: &Case) -> Vec<u8> {
+    let mut tables = [(); 5].map(|_| vec![0; case.n]);
+    let mut tags = vec![0; 10 * case.n];
+    let [a, b, c, d, e] = &mut tables;
+    hand::hand_build(&case.files[0], [a, b, c, d, e], &mut tags).unwrap();
+    tags
+}

@@ -1,0 +1,2 @@
+-- Laws of the packing.
+pub mod Unpacking

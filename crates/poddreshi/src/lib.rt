@@ -1,0 +1,15 @@
+// The C interface. Each call takes numbers and slices alone, is total, and answers with one number of 64 bits, which
+// include/poddreshi.h unpacks.
+mod packing;
+mod plans;
+mod tags;
+
+pub use plans::poddreshi_build;
+pub use plans::poddreshi_chain;
+pub use plans::poddreshi_neighbours;
+pub use plans::poddreshi_reach;
+pub use plans::poddreshi_same;
+pub use plans::poddreshi_validate;
+pub use tags::poddreshi_lookup;
+pub use tags::poddreshi_pair;
+pub use tags::poddreshi_write;

@@ -1,0 +1,50 @@
+// The calls on tags: two tags, a tag file, one tag to be written.
+use crate::packing::pack_lookup;
+use crate::packing::pack_pair;
+use crate::packing::pack_write;
+use tag::LookupAnswer;
+use tag::Tag;
+ghost use mathlib.Core.Path.{_≡_};
+ghost use Rattle.tag.specs.Pairs.{pairOf};
+ghost use Rattle.tag.specs.TagFile.{lookupOf};
+ghost use Rattle.tag.specs.Writing.{writeOf, afterWrite};
+ghost use Rattle.poddreshi.specs.Packing.{packedPair, packedLookup, packedWrite};
+ghost use Rattle.poddreshi.specs.Lent.{offsetAfter};
+
+// The answer from the bytes of two tags.
+#[no_mangle]
+pub extern "C" fn poddreshi_pair(first: &[u8], second: &[u8]) -> u64
+    ensures { λ r. ⌜ r ≡ packedPair (pairOf (now (first .entry)) (now (second .entry))) ⌝ }
+{
+    pack_pair(tag::pair(first, second))
+}
+
+// Where in a tag file the tag at a position begins. `tag::lookup` hands back the part that begins there; a part does not
+// cross into C.
+#[no_mangle]
+pub extern "C" fn poddreshi_lookup(tags: &[u8], at: usize, offset: &mut usize) -> u64
+    ensures { λ r. ⌜ r ≡ packedLookup (lookupOf (now (tags .entry)) at) ⌝ }
+    ensures { λ _. ⌜ now (offset .exit) ≡ offsetAfter (lookupOf (now (tags .entry)) at) at (now (offset .entry)) ⌝ }
+{
+    let answer = tag::lookup_refusal(tags, at);
+    if let LookupAnswer::Found = answer {
+        *offset = Tag::LENGTH * at;
+    }
+    pack_lookup(answer)
+}
+
+// Fills the first ten bytes of `out` with a tag.
+#[no_mangle]
+pub extern "C" fn poddreshi_write(
+    plan: u16,
+    component: u16,
+    depth: u16,
+    rank: u16,
+    last: u16,
+    out: &mut [u8],
+) -> u64
+    ensures { λ r. ⌜ r ≡ packedWrite (writeOf (record { plan = plan; component = component; depth = depth; rank = rank; last = last }) (now (out .entry))) ⌝ }
+    ensures { λ _. ⌜ now (out .exit) ≡ afterWrite (writeOf (record { plan = plan; component = component; depth = depth; rank = rank; last = last }) (now (out .entry))) (record { plan = plan; component = component; depth = depth; rank = rank; last = last }) (now (out .entry)) ⌝ }
+{
+    pack_write(tag::write(plan, component, depth, rank, last, out))
+}

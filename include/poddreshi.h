@@ -1,0 +1,138 @@
+/* Poddreshi: service windows, their distance tree and ten-byte tags. The C interface (C99).
+ *
+ * Link target/staticlib/libpoddreshi.a, which `rt staticlib poddreshi` writes. Beside it is needed only the C library's
+ * memset. It keeps no state, allocates nothing, uses at most some 30 kB of stack and may be called from any thread.
+ *
+ * THE ANSWER of every call is one number of 64 bits: four fields of 16 bits, the lowest first. The first field is the kind.
+ * A refusal has kind PODDRESHI_REFUSED in every call, and then the question's number (1 to 12), the input at fault (0 the
+ * first, 1 the second) and the position of the window being read, or 0. What the other kinds hold is said at each call;
+ * fields that are not named are 0. The functions at the end take an answer apart.
+ *
+ * THE PROMISES below are proved for every input, for the machine that the language defines; the compiler behind it and this
+ * header are tested (tests/). They hold where a caller keeps C's side:
+ *   - a pointer leads to as many elements as the length behind it says, also where that is 0 (it is then not read, but give
+ *     any pointer that is not null);
+ *   - what a call writes to (a pointer with no const) shares no memory with anything else that is passed to it.
+ *
+ * A REFUSAL ALTERS NOTHING that is lent. Where a call writes, what lies past the written entries stays.
+ *
+ * THE QUESTIONS, in the order in which they are asked; a call asks those named with it.
+ *    1  Has the file at least 4 bytes?                    7  Is each position below the number of windows?
+ *    2  Is n at most 2,048?                               8  Does each table hold what is to be written?
+ *    3  Has the file exactly 4 + 8 n bytes?               9  Has the tag 10 bytes, the tag file a multiple of 10?
+ *    4  Is the length at least 1?                        10  Is each field after the plan number at most 2,047?
+ *    5  Is offset + length at most 10,000,000?           11  Have both tags one plan number?
+ *    6  Is the offset at least that of the one before?   12  Do tags of equal component and rank agree in all fields?
+ */
+#ifndef PODDRESHI_H
+#define PODDRESHI_H
+
+#include <stddef.h>
+#include <stdint.h>
+
+#ifdef __cplusplus
+extern "C" {
+#endif
+
+/* The kinds. Each belongs to one answer in the whole interface, but that a pair of tags and a chain share "no chain". */
+enum {
+    PODDRESHI_REFUSED = 0,
+    PODDRESHI_ACCEPTED = 1,
+    PODDRESHI_BUILT = 2,
+    PODDRESHI_REACH = 3,
+    PODDRESHI_CHAIN = 4,
+    PODDRESHI_NO_CHAIN = 5,
+    PODDRESHI_NEIGHBOURS = 6,
+    PODDRESHI_SAME = 7,
+    PODDRESHI_DIFFERENT = 8,
+    PODDRESHI_HANDOVERS = 9,
+    PODDRESHI_FOUND = 10,
+    PODDRESHI_WRITTEN = 11
+};
+
+enum {
+    PODDRESHI_TAG_LENGTH = 10,       /* bytes of a tag */
+    PODDRESHI_FIELD_LIMIT = 2047,    /* the greatest number in a tag's field after the plan number */
+    PODDRESHI_WINDOWS_LIMIT = 2048,  /* the greatest number of windows of a plan */
+    PODDRESHI_FILE_LIMIT = 16388     /* bytes of the longest plan file */
+};
+
+/* Is the file that of an accepted plan? Questions 1 to 6.
+ * ACCEPTED: plan number, number of windows. */
+uint64_t poddreshi_validate(const uint8_t *file, size_t file_length);
+
+/* The five tables and the tag file of a plan. Questions 1 to 6 and 8: each table has room for n entries, the tag file for
+ * 10 n bytes.
+ * BUILT: plan number, number of windows n, number of components. Then the first n entries of each table, by position, are
+ * the window's parent (a root's is its own position), component, depth, rank in post-order within the component, and the
+ * rank of its last; the first 10 n bytes of tags are the tags in order of position. */
+uint64_t poddreshi_build(const uint8_t *file, size_t file_length,
+                         uint16_t *parents, size_t parents_length,
+                         uint16_t *components, size_t components_length,
+                         uint16_t *depths, size_t depths_length,
+                         uint16_t *ranks, size_t ranks_length,
+                         uint16_t *last_ranks, size_t last_ranks_length,
+                         uint8_t *tags, size_t tags_length);
+
+/* The reach of a position's component: the depth of its last window plus 1. Questions 1 to 6 and 7.
+ * REACH: a number of handovers. No two windows of the component are more handovers apart. */
+uint64_t poddreshi_reach(const uint8_t *file, size_t file_length, size_t at);
+
+/* The chain between two windows. Questions 1 to 6, 7 for the first position and then the second, and 8 where there is a
+ * chain.
+ * CHAIN: its number of entries, of which the handovers are one less. The entries are written from the later window to the
+ *     earlier: a chain with the fewest handovers, and of those the one with the earliest window at each step. Of one window
+ *     named twice the chain is that window.
+ * NO_CHAIN: nothing is written. */
+uint64_t poddreshi_chain(const uint8_t *file, size_t file_length, size_t first, size_t second,
+                         uint16_t *out, size_t out_length);
+
+/* The windows that overlap one window. Questions 1 to 6, 7 and 8.
+ * NEIGHBOURS: how many; their positions are written, rising, without the window itself. */
+uint64_t poddreshi_neighbours(const uint8_t *file, size_t file_length, size_t at, uint16_t *out, size_t out_length);
+
+/* Are two plans the same: equal numbers of windows, and the same pairs of positions overlap? Questions 1 to 6 for the first
+ * file, and then for the second.
+ * SAME, or DIFFERENT. */
+uint64_t poddreshi_same(const uint8_t *first, size_t first_length, const uint8_t *second, size_t second_length);
+
+/* The answer from two tags alone. Questions 9 and 10 for the first tag, then for the second, then 11 and 12.
+ * HANDOVERS: the least number of handovers between the two windows, for the tags that build writes.
+ * NO_CHAIN: no chain joins the two windows. */
+uint64_t poddreshi_pair(const uint8_t *first, size_t first_length, const uint8_t *second, size_t second_length);
+
+/* Where in a tag file the tag at a position begins. Questions 9 and 7; the number of windows is the number of tags.
+ * FOUND: *offset is set, and the tag is the ten bytes from tags + *offset on. */
+uint64_t poddreshi_lookup(const uint8_t *tags, size_t tags_length, size_t at, size_t *offset);
+
+/* Writes one tag. Questions 8 and 10.
+ * WRITTEN: the first ten bytes of out are the five numbers, two bytes each, the lowest first. */
+uint64_t poddreshi_write(uint16_t plan, uint16_t component, uint16_t depth, uint16_t rank, uint16_t last,
+                         uint8_t *out, size_t out_length);
+
+/* An answer taken apart. */
+static inline unsigned poddreshi_field(uint64_t answer, unsigned field) {
+    return (unsigned)(answer >> (16 * field) & 0xffff);
+}
+
+static inline unsigned poddreshi_kind(uint64_t answer) { return poddreshi_field(answer, 0); }
+
+/* Of a refusal. */
+static inline int poddreshi_is_refused(uint64_t answer) { return poddreshi_kind(answer) == PODDRESHI_REFUSED; }
+static inline unsigned poddreshi_refusal_number(uint64_t answer) { return poddreshi_field(answer, 1); }
+static inline unsigned poddreshi_refusal_input(uint64_t answer) { return poddreshi_field(answer, 2); }
+static inline unsigned poddreshi_refusal_position(uint64_t answer) { return poddreshi_field(answer, 3); }
+
+/* Of ACCEPTED and BUILT; the components of BUILT alone. */
+static inline unsigned poddreshi_plan(uint64_t answer) { return poddreshi_field(answer, 1); }
+static inline unsigned poddreshi_windows(uint64_t answer) { return poddreshi_field(answer, 2); }
+static inline unsigned poddreshi_components(uint64_t answer) { return poddreshi_field(answer, 3); }
+
+/* Of HANDOVERS, REACH, CHAIN (entries) and NEIGHBOURS. */
+static inline unsigned poddreshi_count(uint64_t answer) { return poddreshi_field(answer, 1); }
+
+#ifdef __cplusplus
+}
+#endif
+
+#endif

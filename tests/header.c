@@ -1,0 +1,84 @@
+/* Every call through include/poddreshi.h, on plan 12: nothing else holds the header's declarations to the library. */
+#include <stdio.h>
+#include <stdlib.h>
+#include <string.h>
+
+#include "poddreshi.h"
+
+static void check(int holds, const char *what) {
+    if (holds) return;
+    fprintf(stderr, "header: %s\n", what);
+    exit(1);
+}
+
+/* One kind of answer, with its numbers. */
+static int is(uint64_t answer, unsigned kind, unsigned first, unsigned second, unsigned third) {
+    return poddreshi_kind(answer) == kind && poddreshi_field(answer, 1) == first && poddreshi_field(answer, 2) == second &&
+           poddreshi_field(answer, 3) == third;
+}
+
+static int refused(uint64_t answer, unsigned number, unsigned input, unsigned position) {
+    return poddreshi_is_refused(answer) && poddreshi_refusal_number(answer) == number &&
+           poddreshi_refusal_input(answer) == input && poddreshi_refusal_position(answer) == position;
+}
+
+static const uint8_t windows[7][2] = {{0, 10}, {2, 3}, {4, 12}, {9, 2}, {12, 6}, {17, 1}, {18, 4}};
+static const uint16_t numbers[7][5] = {{0, 0, 0, 5, 4}, {0, 0, 1, 0, 3}, {0, 0, 1, 3, 2}, {0, 0, 1, 4, 4},
+                                       {2, 0, 2, 2, 1}, {4, 0, 3, 1, 1}, {6, 1, 0, 0, 0}};
+
+static uint8_t file[60];
+static uint16_t parents[7], components[7], depths[7], ranks[7], last_ranks[7], out[7];
+static uint8_t tags[70], tag[10];
+
+static void check_plan(void) {
+    static const uint16_t chain[] = {5, 4, 2, 3}, near[] = {0, 1, 3, 4};
+    uint64_t answer = poddreshi_validate(file, sizeof file);
+
+    check(is(answer, PODDRESHI_ACCEPTED, 12, 7, 0) && poddreshi_plan(answer) == 12 && poddreshi_windows(answer) == 7, "validate");
+    check(is(poddreshi_reach(file, sizeof file, 0), PODDRESHI_REACH, 4, 0, 0), "reach");
+    check(is(poddreshi_chain(file, sizeof file, 3, 5, out, 7), PODDRESHI_CHAIN, 4, 0, 0), "chain");
+    check(memcmp(out, chain, sizeof chain) == 0, "entries of the chain");
+    check(is(poddreshi_chain(file, sizeof file, 5, 6, out, 7), PODDRESHI_NO_CHAIN, 0, 0, 0), "no chain");
+    check(refused(poddreshi_chain(file, sizeof file, 0, 7, out, 7), 7, 1, 0), "a second position past the last");
+    answer = poddreshi_neighbours(file, sizeof file, 2, out, 7);
+    check(is(answer, PODDRESHI_NEIGHBOURS, 4, 0, 0) && poddreshi_count(answer) == 4, "neighbours");
+    check(memcmp(out, near, sizeof near) == 0, "positions of the neighbours");
+    check(is(poddreshi_same(file, sizeof file, file, sizeof file), PODDRESHI_SAME, 0, 0, 0), "same");
+    check(is(poddreshi_same(file, sizeof file, (const uint8_t *)"\0\0\0\0", 4), PODDRESHI_DIFFERENT, 0, 0, 0), "different");
+    check(refused(poddreshi_same(file, sizeof file, file, 3), 1, 1, 0), "a short second file");
+}
+
+static void check_build(void) {
+    uint64_t answer = poddreshi_build(file, sizeof file, parents, 7, components, 7, depths, 7, ranks, 7, last_ranks, 7, tags, 70);
+    int i;
+
+    check(is(answer, PODDRESHI_BUILT, 12, 7, 2) && poddreshi_components(answer) == 2, "build");
+    for (i = 0; i < 7; i++) {
+        const uint16_t row[5] = {parents[i], components[i], depths[i], ranks[i], last_ranks[i]};
+        size_t offset = 1;
+
+        check(memcmp(row, numbers[i], sizeof row) == 0, "the tables");
+        check(is(poddreshi_write(12, row[1], row[2], row[3], row[4], tag, 10), PODDRESHI_WRITTEN, 0, 0, 0), "write");
+        check(is(poddreshi_lookup(tags, 70, (size_t)i, &offset), PODDRESHI_FOUND, 0, 0, 0), "lookup");
+        check(offset == 10 * (size_t)i && memcmp(tags + offset, tag, 10) == 0, "the tag that is looked up");
+    }
+    check(is(poddreshi_pair(tags + 10, 10, tags + 50, 10), PODDRESHI_HANDOVERS, 3, 0, 0), "pair");
+    check(refused(poddreshi_pair(tags, 10, tags, 9), 9, 1, 0), "a short second tag");
+}
+
+int main(void) {
+    int i;
+
+    file[0] = 12;
+    file[2] = 7;
+    for (i = 0; i < 7; i++) {
+        file[4 + 8 * i] = windows[i][0];
+        file[8 + 8 * i] = windows[i][1];
+    }
+    check_plan();
+    check_build();
+    file[4 + 8 * 3] = 1;
+    check(refused(poddreshi_validate(file, sizeof file), 6, 0, 3), "a falling offset");
+    puts("header: every call on plan 12 as it should be");
+    return 0;
+}

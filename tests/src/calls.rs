@@ -1,0 +1,156 @@
+//! The C interface, each call wrapped so that nothing lent can be written to unseen: every table stands inside a larger
+//! buffer of random content, of which all but the table's first entries must stay.
+use crate::oracle::Refusal;
+use crate::random::Random;
+
+extern "C" {
+    fn poddreshi_validate(file: *const u8, length: usize) -> u64;
+    fn poddreshi_build(
+        file: *const u8, length: usize,
+        parents: *mut u16, parents_length: usize,
+        components: *mut u16, components_length: usize,
+        depths: *mut u16, depths_length: usize,
+        ranks: *mut u16, ranks_length: usize,
+        last_ranks: *mut u16, last_ranks_length: usize,
+        tags: *mut u8, tags_length: usize,
+    ) -> u64;
+    fn poddreshi_reach(file: *const u8, length: usize, at: usize) -> u64;
+    fn poddreshi_chain(file: *const u8, length: usize, first: usize, second: usize, out: *mut u16, out_length: usize) -> u64;
+    fn poddreshi_neighbours(file: *const u8, length: usize, at: usize, out: *mut u16, out_length: usize) -> u64;
+    fn poddreshi_same(first: *const u8, first_length: usize, second: *const u8, second_length: usize) -> u64;
+    fn poddreshi_pair(first: *const u8, first_length: usize, second: *const u8, second_length: usize) -> u64;
+    fn poddreshi_lookup(tags: *const u8, length: usize, at: usize, offset: *mut usize) -> u64;
+    fn poddreshi_write(plan: u16, component: u16, depth: u16, rank: u16, last: u16, out: *mut u8, length: usize) -> u64;
+}
+
+#[derive(Clone, Copy, PartialEq, Eq, Debug)]
+pub enum Answer {
+    Refused(Refusal),
+    Accepted { plan: u16, windows: u16 },
+    Built { plan: u16, windows: u16, components: u16 },
+    Reach(u16),
+    Chain(u16),
+    NoChain,
+    Neighbours(u16),
+    Same,
+    Different,
+    Handovers(u16),
+    Found,
+    Written,
+}
+
+fn unpack(answer: u64) -> Answer {
+    let field = |i: u32| (answer >> (16 * i)) as u16;
+    let fields = (field(1), field(2), field(3));
+    match (field(0), fields) {
+        (0, (number, input, position)) => Answer::Refused(Refusal { number, input, position }),
+        (1, (plan, windows, 0)) => Answer::Accepted { plan, windows },
+        (2, (plan, windows, components)) => Answer::Built { plan, windows, components },
+        (3, (handovers, 0, 0)) => Answer::Reach(handovers),
+        (4, (entries, 0, 0)) => Answer::Chain(entries),
+        (5, (0, 0, 0)) => Answer::NoChain,
+        (6, (count, 0, 0)) => Answer::Neighbours(count),
+        (7, (0, 0, 0)) => Answer::Same,
+        (8, (0, 0, 0)) => Answer::Different,
+        (9, (count, 0, 0)) => Answer::Handovers(count),
+        (10, (0, 0, 0)) => Answer::Found,
+        (11, (0, 0, 0)) => Answer::Written,
+        _ => panic!("no call has the answer {answer:#018x}"),
+    }
+}
+
+/// Entries on each side of a table that no call may touch.
+const GUARD: usize = 4;
+
+/// A table of `room` entries inside a guarded buffer of random content.
+pub struct Lent<T> {
+    now: Vec<T>,
+    before: Vec<T>,
+    room: usize,
+}
+
+impl<T: Copy + PartialEq + std::fmt::Debug> Lent<T> {
+    fn new(room: usize, fill: &mut dyn FnMut() -> T) -> Lent<T> {
+        let before: Vec<T> = (0..room + 2 * GUARD).map(|_| fill()).collect();
+        Lent { now: before.clone(), before, room }
+    }
+    fn pointer(&mut self) -> *mut T {
+        self.now[GUARD..].as_mut_ptr()
+    }
+    /// The first entries are those given, and all others of the buffer are as they were.
+    pub fn holds(&self, what: &str, written: &[T]) {
+        assert!(written.len() <= self.room, "{what}: more is due than there is room for");
+        let (start, end) = (GUARD, GUARD + written.len());
+        assert_eq!(&self.now[start..end], written, "{what}: entries written");
+        assert_eq!(self.now[..start], self.before[..start], "{what}: what lies before");
+        assert_eq!(self.now[end..], self.before[end..], "{what}: what lies past");
+    }
+}
+
+pub fn words(room: usize, random: &mut Random) -> Lent<u16> {
+    Lent::new(room, &mut || random.next() as u16)
+}
+
+pub fn bytes(room: usize, random: &mut Random) -> Lent<u8> {
+    Lent::new(room, &mut || random.next() as u8)
+}
+
+pub fn validate(file: &[u8]) -> Answer {
+    unpack(unsafe { poddreshi_validate(file.as_ptr(), file.len()) })
+}
+
+/// The five tables in the paper's order, and the tag file.
+pub struct Tables {
+    pub tables: [Lent<u16>; 5],
+    pub tags: Lent<u8>,
+}
+
+impl Tables {
+    pub fn new(rooms: [usize; 5], tags: usize, random: &mut Random) -> Tables {
+        Tables { tables: rooms.map(|room| words(room, random)), tags: bytes(tags, random) }
+    }
+}
+
+pub fn build(file: &[u8], lent: &mut Tables) -> Answer {
+    let [parents, components, depths, ranks, last_ranks] = &mut lent.tables;
+    unpack(unsafe {
+        poddreshi_build(
+            file.as_ptr(), file.len(),
+            parents.pointer(), parents.room,
+            components.pointer(), components.room,
+            depths.pointer(), depths.room,
+            ranks.pointer(), ranks.room,
+            last_ranks.pointer(), last_ranks.room,
+            lent.tags.pointer(), lent.tags.room,
+        )
+    })
+}
+
+pub fn reach(file: &[u8], at: usize) -> Answer {
+    unpack(unsafe { poddreshi_reach(file.as_ptr(), file.len(), at) })
+}
+
+pub fn chain(file: &[u8], first: usize, second: usize, out: &mut Lent<u16>) -> Answer {
+    unpack(unsafe { poddreshi_chain(file.as_ptr(), file.len(), first, second, out.pointer(), out.room) })
+}
+
+pub fn neighbours(file: &[u8], at: usize, out: &mut Lent<u16>) -> Answer {
+    unpack(unsafe { poddreshi_neighbours(file.as_ptr(), file.len(), at, out.pointer(), out.room) })
+}
+
+pub fn same(first: &[u8], second: &[u8]) -> Answer {
+    unpack(unsafe { poddreshi_same(first.as_ptr(), first.len(), second.as_ptr(), second.len()) })
+}
+
+pub fn pair(first: &[u8], second: &[u8]) -> Answer {
+    unpack(unsafe { poddreshi_pair(first.as_ptr(), first.len(), second.as_ptr(), second.len()) })
+}
+
+pub fn lookup(tags: &[u8], at: usize, offset: &mut usize) -> Answer {
+    unpack(unsafe { poddreshi_lookup(tags.as_ptr(), tags.len(), at, offset) })
+}
+
+pub fn write(tag: [u16; 5], out: &mut Lent<u8>) -> Answer {
+    let [plan, component, depth, rank, last] = tag;
+    unpack(unsafe { poddreshi_write(plan, component, depth, rank, last, out.pointer(), out.room) })
+}

@@ -1,0 +1,229 @@
+//! The library through its C interface beside an implementation of different origin (`oracle`), on every overlap pattern of
+//! few windows and on random plans, damaged files and damaged tags.
+//!
+//!   differential [--long] [--seed N] [--case N]
+//!
+//! A run is decided by its seed. A failure names the seed and the case, and `--seed N --case N` runs that one again.
+mod calls;
+mod compare;
+mod oracle;
+mod random;
+mod shapes;
+
+use compare::{Comparison, Depth};
+use random::Random;
+use shapes::{file_of, patterns, windows, SHAPES};
+use std::sync::Mutex;
+use std::time::Instant;
+
+/// What is being compared, for the report of a failure.
+static AT: Mutex<String> = Mutex::new(String::new());
+
+struct Run {
+    long: bool,
+    seed: u64,
+    only: Option<u64>,
+    cases: u64,
+    calls: u64,
+    started: Instant,
+}
+
+impl Run {
+    /// One case, with random numbers of its own. What is wanted of the long run alone is a multiple.
+    fn case(&mut self, what: &str, compare: &mut dyn FnMut(&mut Comparison)) {
+        self.cases += 1;
+        if self.only.is_some_and(|only| only != self.cases) {
+            return;
+        }
+        *AT.lock().unwrap() = format!("{what}; run again with --seed {} --case {}", self.seed, self.cases);
+        let seed = self.seed.wrapping_mul(1_000_003).wrapping_add(self.cases);
+        let mut comparison = Comparison::new(Random::new(seed));
+        compare(&mut comparison);
+        self.calls += comparison.calls;
+    }
+
+    fn times(&self, short: u64, long: u64) -> u64 {
+        if self.long { long } else { short }
+    }
+
+    fn report(&self, what: &str) {
+        let seconds = self.started.elapsed().as_secs_f64();
+        println!("{what}: so far {} cases, {} calls, {seconds:.1} s", self.cases, self.calls);
+    }
+}
+
+/// Every overlap pattern, with every pair of positions in both orders, and every two patterns for sameness.
+fn every_pattern(run: &mut Run) {
+    for n in 0..=run.times(6, 8) as usize {
+        for pattern in patterns(n) {
+            run.case("a pattern", &mut |comparison| {
+                let plan = comparison.random.next() as u16;
+                comparison.file(&file_of(plan, &pattern), Depth::Whole);
+            });
+        }
+    }
+    for n in 0..=run.times(4, 6) as usize {
+        let (one, more) = (patterns(n), patterns(n + 1));
+        for first in &one {
+            run.case("a pattern beside all others", &mut |comparison| {
+                for second in one.iter().chain(more.iter().take(1)) {
+                    comparison.same(&file_of(1, first), &file_of(2, second));
+                }
+                let stretched: Vec<(u32, u32)> = first.iter().map(|w| (7 * w.0 + 5, 7 * w.1)).collect();
+                comparison.same(&file_of(1, first), &file_of(1, &stretched));
+            });
+        }
+    }
+    run.report("patterns");
+}
+
+/// Small random plans of each shape, all pairs, and each beside a plan that differs in one window.
+fn small_plans(run: &mut Run) {
+    for _ in 0..run.times(2_500, 50_000) {
+        for shape in SHAPES {
+            run.case(&format!("{shape:?}, small"), &mut |comparison| {
+                let n = comparison.random.below(33) as usize;
+                let plan = windows(shape, n, &mut comparison.random);
+                let file = file_of(comparison.random.next() as u16, &plan);
+                comparison.file(&file, Depth::Whole);
+                let mut other = plan.clone();
+                if n > 0 {
+                    let at = comparison.random.below(n as u64) as usize;
+                    other[at].1 = comparison.random.between(1, 12) as u32;
+                    other[at].1 = other[at].1.min(10_000_000 - other[at].0);
+                }
+                comparison.same(&file_of(1, &plan), &file_of(2, &other));
+            });
+        }
+    }
+    run.report("small plans");
+}
+
+/// Larger plans, all pairs of tags; n = 2,048 among them.
+fn large_plans(run: &mut Run) {
+    for turn in 0..run.times(4, 100) {
+        for shape in SHAPES {
+            run.case(&format!("{shape:?}, large"), &mut |comparison| {
+                let n = if turn == 0 { 2048 } else { comparison.random.between(100, 700) as usize };
+                let plan = windows(shape, n, &mut comparison.random);
+                let file = file_of(comparison.random.next() as u16, &plan);
+                comparison.file(&file, Depth::Sampled);
+            });
+        }
+    }
+    run.report("large plans");
+}
+
+const NUMBERS: [u32; 14] =
+    [0, 1, 2, 9, 255, 256, 65_535, 65_536, 9_999_999, 10_000_000, 10_000_001, 1 << 31, u32::MAX - 1, u32::MAX];
+
+/// Files with one field changed, cut short anywhere, or with bytes added.
+fn damaged_files(run: &mut Run) {
+    for _ in 0..run.times(400, 10_000) {
+        for shape in SHAPES {
+            run.case(&format!("{shape:?}, damaged"), &mut |comparison| {
+                let n = comparison.random.below(9) as usize;
+                let file = file_of(12, &windows(shape, n, &mut comparison.random));
+                for cut in 0..file.len() {
+                    comparison.file(&file[..cut], Depth::Whole);
+                }
+                let extra = comparison.random.between(1, 17) as usize;
+                comparison.file(&[file.clone(), vec![0; extra]].concat(), Depth::Whole);
+                for count in [0, 1, n + 1, 2047, 2048, 2049, 65_535] {
+                    let mut other = file.clone();
+                    other[2..4].copy_from_slice(&(count as u16).to_le_bytes());
+                    comparison.file(&other, Depth::Whole);
+                }
+                for field in 0..2 * n {
+                    for number in NUMBERS {
+                        let mut other = file.clone();
+                        other[4 + 4 * field..8 + 4 * field].copy_from_slice(&number.to_le_bytes());
+                        comparison.file(&other, Depth::Whole);
+                    }
+                }
+                let bit = comparison.random.below(8 * file.len() as u64) as usize;
+                let mut other = file.clone();
+                other[bit / 8] ^= 1 << (bit % 8);
+                comparison.file(&other, Depth::Whole);
+            });
+        }
+    }
+    run.report("damaged files");
+}
+
+/// The edges of n: 2,048 windows, 2,049 in a long and in a short file.
+fn edges_of_n(run: &mut Run) {
+    run.case("n at its limit", &mut |comparison| {
+        for n in [2047, 2048, 2049] {
+            let plan = vec![(9_999_999, 1); n];
+            comparison.file(&file_of(3, &plan), Depth::Sampled);
+            comparison.file(&file_of(3, &plan)[..5], Depth::Sampled);
+        }
+        let mut last = vec![(0, 5); 2048];
+        last[2047] = (0, 0);
+        comparison.file(&file_of(3, &last), Depth::Sampled);
+    });
+}
+
+fn field(random: &mut Random) -> u16 {
+    match random.below(12) {
+        0 => random.pick(&[2047, 2048, 2049, 4095, 32_768, 65_535]),
+        1 => random.next() as u16,
+        2 => random.below(2048) as u16,
+        _ => random.below(4) as u16,
+    }
+}
+
+/// Tags that no plan has, of every length about ten; tags written; tag files of every length.
+fn any_tags(run: &mut Run) {
+    for _ in 0..run.times(1_000, 30_000) {
+        run.case("tags", &mut |comparison| {
+            for _ in 0..500 {
+                let mut tags = [(); 2].map(|_| [(); 5].map(|_| field(&mut comparison.random)));
+                if comparison.random.below(4) > 0 {
+                    tags[1][0] = tags[0][0];
+                }
+                let mut bytes = tags.map(oracle::tag_bytes);
+                if comparison.random.below(8) == 0 {
+                    let length = comparison.random.below(22) as usize;
+                    bytes[comparison.random.below(2) as usize].resize(length, 0);
+                }
+                comparison.tags(&bytes[0], &bytes[1]);
+                comparison.tags(&bytes[0], &bytes[0]);
+                let room = comparison.random.between(7, 14) as usize;
+                comparison.write(tags[0], room);
+            }
+            let length = comparison.random.below(64) as usize;
+            comparison.lookup(&vec![7; length], length / 10);
+        });
+    }
+    run.report("tags");
+}
+
+fn main() {
+    let mut run = Run { long: false, seed: 20_240_625, only: None, cases: 0, calls: 0, started: Instant::now() };
+    let mut words = std::env::args().skip(1);
+    while let Some(word) = words.next() {
+        let mut number = || words.next().and_then(|n| n.parse().ok()).expect("a number");
+        match word.as_str() {
+            "--long" => run.long = true,
+            "--seed" => run.seed = number(),
+            "--case" => run.only = Some(number()),
+            _ => panic!("usage: differential [--long] [--seed N] [--case N]"),
+        }
+    }
+    let seed = run.seed;
+    let usual = std::panic::take_hook();
+    std::panic::set_hook(Box::new(move |info| {
+        usual(info);
+        eprintln!("differential FAILED, seed {seed}: {}", AT.lock().unwrap_or_else(|at| at.into_inner()));
+    }));
+    every_pattern(&mut run);
+    edges_of_n(&mut run);
+    small_plans(&mut run);
+    large_plans(&mut run);
+    damaged_files(&mut run);
+    any_tags(&mut run);
+    let seconds = run.started.elapsed().as_secs_f64();
+    println!("differential: {} cases, {} calls, no difference, seed {seed}, {seconds:.1} s", run.cases, run.calls);
+}

@@ -1,0 +1,291 @@
+//! What paper 01 says, by brute force: windows as sets of minutes, overlap as a minute that both sets have, least numbers
+//! of handovers by breadth-first search, post-order by recursion. Nothing here is taken from the library: where it has a
+//! formula, this has a search.
+
+#[derive(Clone, Copy, PartialEq, Eq, Debug)]
+pub struct Refusal {
+    pub number: u16,
+    pub input: u16,
+    pub position: u16,
+}
+
+pub fn refusal(number: u16, input: u16, position: usize) -> Refusal {
+    Refusal { number, input, position: position as u16 }
+}
+
+fn number(bytes: &[u8]) -> u64 {
+    bytes.iter().rev().fold(0, |high, &byte| high * 256 + byte as u64)
+}
+
+pub struct Plan {
+    pub number: u16,
+    pub windows: Vec<(u64, u64)>,
+}
+
+/// Questions 1 to 6.
+pub fn read_plan(file: &[u8], input: u16) -> Result<Plan, Refusal> {
+    if file.len() < 4 {
+        return Err(refusal(1, input, 0));
+    }
+    let n = number(&file[2..4]) as usize;
+    if n > 2048 {
+        return Err(refusal(2, input, 0));
+    }
+    if file.len() != 4 + 8 * n {
+        return Err(refusal(3, input, 0));
+    }
+    let windows: Vec<(u64, u64)> = file[4..].chunks(8).map(|pair| (number(&pair[..4]), number(&pair[4..]))).collect();
+    for (position, &(offset, length)) in windows.iter().enumerate() {
+        if length < 1 {
+            return Err(refusal(4, input, position));
+        }
+        if offset + length > 10_000_000 {
+            return Err(refusal(5, input, position));
+        }
+        if position > 0 && offset < windows[position - 1].0 {
+            return Err(refusal(6, input, position));
+        }
+    }
+    Ok(Plan { number: number(&file[..2]) as u16, windows })
+}
+
+/// A set of small numbers.
+#[derive(Clone, PartialEq)]
+pub struct Set(Vec<u64>);
+
+impl Set {
+    pub fn empty(size: usize) -> Set {
+        Set(vec![0; size.div_ceil(64)])
+    }
+    pub fn add(&mut self, x: usize) {
+        self.0[x / 64] |= 1 << (x % 64);
+    }
+    pub fn has(&self, x: usize) -> bool {
+        self.0[x / 64] >> (x % 64) & 1 == 1
+    }
+    fn shares_with(&self, other: &Set) -> bool {
+        self.0.iter().zip(&other.0).any(|(a, b)| a & b != 0)
+    }
+    fn add_all(&mut self, other: &Set) {
+        self.0.iter_mut().zip(&other.0).for_each(|(a, b)| *a |= b);
+    }
+    fn remove_all(&mut self, other: &Set) {
+        self.0.iter_mut().zip(&other.0).for_each(|(a, b)| *a &= !b);
+    }
+    fn is_empty(&self) -> bool {
+        self.0.iter().all(|&word| word == 0)
+    }
+    pub fn members(&self) -> Vec<usize> {
+        (0..64 * self.0.len()).filter(|&x| self.has(x)).collect()
+    }
+}
+
+/// Plans that end later than this have their minutes taken in runs in which no window begins or ends.
+const MINUTE_BY_MINUTE: u64 = 4096;
+
+/// The minutes that each window covers, as a set.
+fn minutes(plan: &Plan) -> Vec<Set> {
+    let latest = plan.windows.iter().map(|w| w.0 + w.1).max().unwrap_or(0);
+    let starts: Vec<u64> = if latest <= MINUTE_BY_MINUTE {
+        (0..latest).collect()
+    } else {
+        let mut bounds: Vec<u64> = plan.windows.iter().flat_map(|w| [w.0, w.0 + w.1]).collect();
+        bounds.sort_unstable();
+        bounds.dedup();
+        bounds
+    };
+    let covered = |&(offset, length): &(u64, u64)| {
+        let mut set = Set::empty(starts.len());
+        for (i, &minute) in starts.iter().enumerate() {
+            if offset <= minute && minute < offset + length {
+                set.add(i);
+            }
+        }
+        set
+    };
+    plan.windows.iter().map(covered).collect()
+}
+
+/// The tree of an accepted plan, and which windows overlap.
+pub struct Tree {
+    pub n: usize,
+    pub plan: u16,
+    /// By position, the positions that overlap it.
+    pub overlaps: Vec<Set>,
+    pub parent: Vec<usize>,
+    pub component: Vec<usize>,
+    pub components: usize,
+    pub depth: Vec<usize>,
+    pub rank: Vec<usize>,
+    pub last: Vec<usize>,
+}
+
+/// Children in order of position, each with all under it, and then the parent.
+fn post_order(v: usize, children: &[Vec<usize>], out: &mut Vec<usize>) {
+    for &child in &children[v] {
+        post_order(child, children, out);
+    }
+    out.push(v);
+}
+
+impl Tree {
+    pub fn of(plan: &Plan) -> Tree {
+        let n = plan.windows.len();
+        let minutes = minutes(plan);
+        let mut overlaps = vec![Set::empty(n); n];
+        for u in 0..n {
+            for v in 0..n {
+                if u != v && minutes[u].shares_with(&minutes[v]) {
+                    overlaps[u].add(v);
+                }
+            }
+        }
+        let parent: Vec<usize> = (0..n).map(|v| (0..v).find(|&u| overlaps[u].has(v)).unwrap_or(v)).collect();
+        let last = (0..n).map(|u| (u + 1..n).rev().find(|&v| overlaps[u].has(v)).unwrap_or(u)).collect();
+        let mut children = vec![Vec::new(); n];
+        let roots: Vec<usize> = (0..n).filter(|&v| parent[v] == v).collect();
+        for v in (0..n).filter(|&v| parent[v] != v) {
+            children[parent[v]].push(v);
+        }
+        let (mut component, mut rank, mut depth) = (vec![0; n], vec![0; n], vec![0; n]);
+        for (number, &root) in roots.iter().enumerate() {
+            let mut order = Vec::new();
+            post_order(root, &children, &mut order);
+            for (place, &v) in order.iter().enumerate() {
+                component[v] = number;
+                rank[v] = place;
+                let mut at = v;
+                while parent[at] != at {
+                    at = parent[at];
+                    depth[v] += 1;
+                }
+            }
+        }
+        Tree { n, plan: plan.number, overlaps, parent, component, components: roots.len(), depth, rank, last }
+    }
+
+    pub fn tag(&self, v: usize) -> [u16; 5] {
+        let fields = [self.component[v], self.depth[v], self.rank[v], self.rank[self.last[v]]];
+        [self.plan, fields[0] as u16, fields[1] as u16, fields[2] as u16, fields[3] as u16]
+    }
+
+    pub fn reach(&self, v: usize) -> usize {
+        let last = (0..self.n).rev().find(|&w| self.component[w] == self.component[v]).unwrap();
+        self.depth[last] + 1
+    }
+
+    /// The least number of handovers from one window to each, by breadth-first search; none where no chain joins them.
+    pub fn distances(&self, from: usize) -> Vec<Option<u16>> {
+        let mut found = vec![None; self.n];
+        let mut seen = Set::empty(self.n);
+        let mut front = Set::empty(self.n);
+        front.add(from);
+        seen.add(from);
+        let mut steps = 0;
+        while !front.is_empty() {
+            let mut next = Set::empty(self.n);
+            for v in front.members() {
+                found[v] = Some(steps);
+                next.add_all(&self.overlaps[v]);
+            }
+            next.remove_all(&seen);
+            seen.add_all(&next);
+            front = next;
+            steps += 1;
+        }
+        found
+    }
+
+    /// At each step of a shortest chain from the later window, the earliest position at which any shortest chain stands.
+    /// The chain that is asked for is this list, since no chain is earlier at any step.
+    pub fn earliest(&self, from_later: &[Option<u16>], from_earlier: &[Option<u16>], earlier: usize) -> Option<Vec<u16>> {
+        let steps = from_later[earlier]?;
+        let mut list = vec![u16::MAX; steps as usize + 1];
+        for x in (0..self.n).rev() {
+            if let (Some(a), Some(b)) = (from_later[x], from_earlier[x]) {
+                if a + b == steps {
+                    list[a as usize] = x as u16;
+                }
+            }
+        }
+        Some(list)
+    }
+
+    /// Every shortest chain from one window to another, for small plans.
+    pub fn shortest_chains(&self, from: usize, to: &[Option<u16>]) -> Vec<Vec<usize>> {
+        if to[from] == Some(0) {
+            return vec![vec![from]];
+        }
+        let Some(steps) = to[from] else { return Vec::new() };
+        let mut all = Vec::new();
+        for next in (0..self.n).filter(|&x| self.overlaps[from].has(x) && to[x] == Some(steps - 1)) {
+            for mut rest in self.shortest_chains(next, to) {
+                rest.insert(0, from);
+                all.push(rest);
+            }
+        }
+        all
+    }
+}
+
+#[derive(Clone, Copy, PartialEq, Eq, Debug)]
+pub enum Pair {
+    Handovers(u16),
+    NoChain,
+    Refused(Refusal),
+}
+
+pub fn tag_bytes(tag: [u16; 5]) -> Vec<u8> {
+    tag.iter().flat_map(|x| [(x & 255) as u8, (x >> 8) as u8]).collect()
+}
+
+/// Questions 9 and 10.
+fn read_tag(bytes: &[u8], input: u16) -> Result<[i32; 5], Refusal> {
+    if bytes.len() != 10 {
+        return Err(refusal(9, input, 0));
+    }
+    let mut tag = [0; 5];
+    for (i, two) in bytes.chunks(2).enumerate() {
+        tag[i] = number(two) as i32;
+    }
+    if tag[1..].iter().any(|&x| x > 2047) {
+        return Err(refusal(10, input, 0));
+    }
+    Ok(tag)
+}
+
+/// The rule on any two byte strings, in the paper's order. (Of the tags of a plan the answer is held against the search.)
+pub fn pair(first: &[u8], second: &[u8]) -> Pair {
+    let a = match read_tag(first, 0) {
+        Ok(tag) => tag,
+        Err(no) => return Pair::Refused(no),
+    };
+    let b = match read_tag(second, 1) {
+        Ok(tag) => tag,
+        Err(no) => return Pair::Refused(no),
+    };
+    let [plan_a, component_a, depth_a, rank_a, _] = a;
+    let [plan_b, component_b, depth_b, rank_b, _] = b;
+    if plan_a != plan_b {
+        return Pair::Refused(refusal(11, 1, 0));
+    }
+    if component_a == component_b && rank_a == rank_b && a != b {
+        return Pair::Refused(refusal(12, 1, 0));
+    }
+    if a == b {
+        return Pair::Handovers(0);
+    }
+    if component_a != component_b {
+        return Pair::NoChain;
+    }
+    // "u is the tag with smaller depth, or smaller rank at equal depth"
+    let (u, v) = if (depth_a, rank_a) < (depth_b, rank_b) { (a, b) } else { (b, a) };
+    let (d, rank_u, rank_v, last_u) = (v[2] - u[2], u[3], v[3], u[4]);
+    let count = match rank_u < rank_v {
+        true if rank_v <= last_u || last_u < rank_u => d + 1,
+        true => d + 2,
+        false if rank_v <= last_u && last_u < rank_u => d,
+        false => d + 1,
+    };
+    Pair::Handovers(count as u16)
+}

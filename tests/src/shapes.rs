@@ -1,0 +1,125 @@
+//! Plan files: every overlap pattern of few windows, and random plans of different shapes.
+use crate::random::Random;
+
+pub fn file_of(plan: u16, windows: &[(u32, u32)]) -> Vec<u8> {
+    let mut file = plan.to_le_bytes().to_vec();
+    file.extend((windows.len() as u16).to_le_bytes());
+    for (offset, length) in windows {
+        file.extend(offset.to_le_bytes());
+        file.extend(length.to_le_bytes());
+    }
+    file
+}
+
+/// Every list of lasts of n windows, as a plan: window u begins at minute u and ends behind the minute of its last. There
+/// are n! of them, and every overlap pattern of n windows is among them.
+pub fn patterns(n: usize) -> Vec<Vec<(u32, u32)>> {
+    let mut all: Vec<Vec<(u32, u32)>> = vec![Vec::new()];
+    for u in 0..n {
+        let longer = |windows: &Vec<(u32, u32)>| {
+            let with = |last: usize| [windows.clone(), vec![(u as u32, (last - u + 1) as u32)]].concat();
+            (u..n).map(with).collect::<Vec<_>>()
+        };
+        all = all.iter().flat_map(longer).collect();
+    }
+    all
+}
+
+#[derive(Clone, Copy, Debug)]
+pub enum Shape {
+    Sparse,
+    Dense,
+    Nested,
+    Staircase,
+    EqualOffsets,
+    Touching,
+    Mixed,
+    Far,
+}
+
+pub const SHAPES: [Shape; 8] = [
+    Shape::Sparse,
+    Shape::Dense,
+    Shape::Nested,
+    Shape::Staircase,
+    Shape::EqualOffsets,
+    Shape::Touching,
+    Shape::Mixed,
+    Shape::Far,
+];
+
+pub fn windows(shape: Shape, n: usize, random: &mut Random) -> Vec<(u32, u32)> {
+    let mut windows = match shape {
+        Shape::Sparse => scattered(n, 12 * n as u64 + 1, 10, random),
+        Shape::Dense => scattered(n, n as u64 + 1, n as u64 + 1, random),
+        Shape::Nested => nested(n, random),
+        Shape::Staircase => stepping(n, random),
+        Shape::EqualOffsets => scattered(n, n as u64 / 4 + 1, 6, random),
+        Shape::Touching => touching(n, random),
+        Shape::Mixed => mixed(n, random),
+        Shape::Far => far(n, random),
+    };
+    // Equal offsets keep the order in which they were drawn.
+    windows.sort_by_key(|w| w.0);
+    windows.into_iter().map(|(offset, length)| (offset as u32, length as u32)).collect()
+}
+
+fn scattered(n: usize, span: u64, longest: u64, random: &mut Random) -> Vec<(u64, u64)> {
+    (0..n).map(|_| (random.below(span), random.between(1, longest))).collect()
+}
+
+/// Windows inside windows, and some beside.
+fn nested(n: usize, random: &mut Random) -> Vec<(u64, u64)> {
+    let (mut low, mut high) = (0, 4 * n as u64 + 4);
+    let mut windows = Vec::new();
+    for _ in 0..n {
+        windows.push((low, high - low));
+        if high - low < 4 || random.below(8) == 0 {
+            (low, high) = (high + random.below(2), high + 4 + random.below(4 * n as u64));
+        } else {
+            low += random.below(2);
+            high -= random.below(2);
+        }
+    }
+    windows
+}
+
+/// Each window overlaps the next few.
+fn stepping(n: usize, random: &mut Random) -> Vec<(u64, u64)> {
+    let step = random.between(1, 4);
+    (0..n as u64).map(|i| (i * step, step + random.between(0, 2 * step))).collect()
+}
+
+/// Windows that begin where others end, or a minute before.
+fn touching(n: usize, random: &mut Random) -> Vec<(u64, u64)> {
+    let mut ends = vec![0];
+    let mut windows = Vec::new();
+    for _ in 0..n {
+        let end: u64 = random.pick(&ends[ends.len().saturating_sub(5)..]);
+        let offset = end.saturating_sub(random.below(3) / 2);
+        let length = random.between(1, 5);
+        ends.push(offset + length);
+        windows.push((offset, length));
+    }
+    windows
+}
+
+/// A few long windows over many short ones.
+fn mixed(n: usize, random: &mut Random) -> Vec<(u64, u64)> {
+    let span = 3 * n as u64 + 1;
+    let window = |random: &mut Random| match random.below(10) {
+        0 => (random.below(span), random.between(1, span)),
+        _ => (random.below(span), random.between(1, 4)),
+    };
+    (0..n).map(|_| window(random)).collect()
+}
+
+/// Near the greatest end, 10,000,000.
+fn far(n: usize, random: &mut Random) -> Vec<(u64, u64)> {
+    let span = 2 * n as u64 + 10;
+    let window = |random: &mut Random| {
+        let offset = 10_000_000 - 1 - random.below(span);
+        (offset, random.between(1, (10_000_000 - offset).min(9)))
+    };
+    (0..n).map(|_| window(random)).collect()
+}
