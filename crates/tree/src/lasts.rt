@@ -4,24 +4,14 @@ use crate::spans::read_spans;
 use plan::Validation;
 use wire::Refusal;
 ghost use mathlib.Core.Path.{_≡_};
-ghost use mathlib.Core.Bool.{cond};
 ghost use Prim.Native.Nat.{_≤_, _<_};
 ghost use lib.ListN.{length};
-ghost use lib.Dec.{ltb};
 ghost use Rattle.sequences.specs.Table.{table, overwritten};
 ghost use Rattle.tree.specs.Tables.{lastOf};
 ghost use Rattle.plan.specs.File.{windowCount};
 ghost use Rattle.plan.specs.Validation.{AcceptedPlan};
 ghost use Rattle.tree.specs.SingleTable.{tableOf, afterTable};
 ghost use Rattle.tree.specs.Passes.{Prepared, Sorted, LastBefore};
-
-// 1 where the offset lies before the end, else 0: the carry of their difference. The search below takes either half by it, with
-// no branch that a processor would have to guess.
-fn is_before(offset: u32, end: u32) -> usize
-    ensures { λ r. ⌜ r ≡ cond (ltb offset end) 1 0 ⌝ }
-{
-    ((end as u64 + 4294967295 - offset as u64) / 4294967296) as usize
-}
 
 // The last position from `from` on, below `to`, whose offset lies before the end; `from` itself where there is none.
 fn last_before(offsets: &[u32], end: u32, from: usize, to: usize) -> usize
@@ -31,11 +21,14 @@ fn last_before(offsets: &[u32], end: u32, from: usize, to: usize) -> usize
     ensures { λ r. ⌜ LastBefore (now (offsets .entry)) end from to r ⌝ }
 {
     let mut low = from;
-    let mut width = to - from;
-    while 1 < width {
-        let half = width / 2;
-        low += half * is_before(offsets[low + half], end);
-        width -= half;
+    let mut high = to;
+    while 1 < high - low {
+        let middle = low + (high - low) / 2;
+        if offsets[middle] < end {
+            low = middle;
+        } else {
+            high = middle;
+        }
     }
     low
 }
