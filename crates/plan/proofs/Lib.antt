@@ -2,9 +2,11 @@
 --   Validation  what each answer of `validate` shows
 --   Accepted    what is known of an accepted plan's windows
 --   Calls       calls that validate a file and then ask more
+--   SecondFile  questions 1 to 6 to a call's second file
 --   Overlap     overlap by minutes, by ends, and in interval order
 pub mod Validation
 pub mod Accepted
 pub mod Overlap
 pub mod Calls
+pub mod SecondFile
 pub mod Plan12

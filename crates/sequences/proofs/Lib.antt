@@ -6,3 +6,4 @@ pub mod Lists
 pub mod FlatMap
 pub mod Pairwise
 pub mod Table
+pub mod Appending

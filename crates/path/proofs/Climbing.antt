@@ -1,0 +1,92 @@
+-- The way up from the later window: when a window stands behind the last of the earlier one, and how many steps lead to one
+-- that does not.
+-- Vocabulary: Climbing.
+-- Assumes nothing.
+use Prim.Native.Nat.{ℕ, zero, suc, _+_, _-_, _≤_, _<_}
+use mathlib.Core.Bool.{Bool, true, false, not}
+use mathlib.Core.Path.{_≡_, refl, sym, ap, _∙_}
+use mathlib.Core.Logic.{⊎-elim}
+use mathlib.Core.List.{List}
+use native.Mathlib.Omega.{arith}
+use native.Mathlib.Numerals.{add-one}
+use lib.Dec.{ltb, leb}
+use borrow.Author.Tests.{ltb-true, ltb-false, lt-ltb, le-ltb, le-leb, lt-leb}
+use Rattle.sequences.proofs.Tests.{true-false-absurd, lt-or-ge}
+use Rattle.sequences.proofs.Search.{least-le, least-unique}
+use Rattle.interval_graph.specs.Order.{IntervalOrder}
+use Rattle.interval_graph.specs.Tree.{last, parent, ancestor}
+use Rattle.interval_graph.specs.Walk.{climb}
+use Rattle.interval_graph.proofs.Last.{last-ge, overlap-last, last-overlap}
+use Rattle.interval_graph.proofs.Parent.{parent-le}
+use Rattle.interval_graph.proofs.Ancestor.{ancestor-zero, ancestor-suc, ancestor-add}
+use Rattle.interval_graph.proofs.Depth.{fixed-stays}
+
+-- The way up before a test: where it stands, that each step lowered the position, and that every window so far stands
+-- behind the last of the earlier one.
+pub record Climbing (n : ℕ) (overlaps : ℕ → ℕ → Bool) (u v at steps : ℕ) : Type 0 where
+  pub stands : at ≡ ancestor overlaps steps v
+  pub fell : at + steps ≤ v
+  pub behind : (k : ℕ) → k < steps → last n overlaps u < ancestor overlaps k v
+
+module _ {n : ℕ} {overlaps : ℕ → ℕ → Bool} (ok : IntervalOrder n overlaps) (u x : ℕ) where
+  -- A window not behind u is not behind its last.
+  pub past-not : x ≤ u → false ≡ ltb (last n overlaps u) x
+  past-not h = sym (le-ltb (last n overlaps u) x (omega (arith, last-ge ok u)))
+
+  -- One behind u is behind its last exactly if it does not overlap u.
+  pub past-apart : (r : Bool) → u < x → x < n → r ≡ overlaps u x → not r ≡ ltb (last n overlaps u) x
+  past-apart true h g e = sym (le-ltb (last n overlaps u) x (overlap-last ok u x h g (sym e)))
+  past-apart false h g e =
+      sym
+      (lt-ltb (last n overlaps u) x
+      (⊎-elim (λ l. l)
+      (λ l. absurd (true-false-absurd _ (last-overlap ok u x h l) (sym e))) (lt-or-ge (last n overlaps u) x)))
+
+-- What the test's answer says.
+pub past-true : (r : Bool) (a b : ℕ) → r ≡ ltb a b → r ≡ true → a < b
+past-true r a b e t = ltb-true a b (sym e ∙ t)
+
+pub past-false : (r : Bool) (a b : ℕ) → r ≡ ltb a b → r ≡ false → b ≤ a
+past-false r a b e t = ltb-false a b (sym e ∙ t)
+
+module _ (n : ℕ) (overlaps : ℕ → ℕ → Bool) (u v : ℕ) where
+  -- There are never more steps than windows up to v.
+  pub climb-few : climb n overlaps u v ≤ suc v
+  unfolding climb
+  climb-few = least-le (λ j. leb (ancestor overlaps j v) (last n overlaps u)) (suc v)
+
+  pub climbing-start : Climbing n overlaps u v v 0
+  climbing-start =
+      record { stands = sym (ancestor-zero overlaps v); fell = omega arith; behind = λ k h. absurd (omega arith) }
+
+  module _ (at steps : ℕ) (s : Climbing n overlaps u v at steps) where
+    -- A step up to a parent that is another window.
+    pub climbing-turn : (up : ℕ) → last n overlaps u < at → up ≡ parent overlaps at → (up ≡ at → ⊥) → Climbing n overlaps u v up (steps + 1)
+    climbing-turn up past e other =
+        record {
+          stands = rw (add-one steps, ancestor-suc overlaps steps v, ← s .stands) e;
+          fell = omega (arith, s .fell, parent-le overlaps at, other);
+          behind = λ k h. ⊎-elim (s .behind k) (λ g. let f : k ≡ steps = omega arith in rw (f, ← s .stands) past) (lt-or-ge k steps);
+        }
+
+    -- The first window that is not behind the last is as many steps up as were made.
+    pub climbing-arrived : at ≤ last n overlaps u → steps ≡ climb n overlaps u v
+    unfolding climb
+    climbing-arrived h =
+        sym
+        (least-unique (λ j. leb (ancestor overlaps j v) (last n overlaps u)) (suc v) steps (omega (arith, s .fell))
+        (λ g. le-leb (ancestor overlaps steps v) (last n overlaps u) (rw (← s .stands) h)) (λ j g. lt-leb _ _ (s .behind j g)))
+
+    -- Above a root there is none.
+    pub climbing-root : last n overlaps u < at → at ≡ parent overlaps at → v + 1 ≡ climb n overlaps u v
+    unfolding climb
+    climbing-root past root =
+        add-one v
+        ∙ sym
+        (least-unique (λ j. leb (ancestor overlaps j v) (last n overlaps u)) (suc v) (suc v) (omega arith) (λ g. absurd (omega arith))
+        (λ j g. lt-leb _ _ (⊎-elim (s .behind j) (stays j) (lt-or-ge j steps))))
+      where
+        stays : (j : ℕ) → steps ≤ j → last n overlaps u < ancestor overlaps j v
+        stays j h =
+            let e : j ≡ (j - steps) + steps = omega arith in
+            rw (e, ancestor-add overlaps (j - steps) steps v, ← s .stands, fixed-stays overlaps (j - steps) at (sym root)) past

@@ -1,0 +1,57 @@
+-- `path::adjacency::count_neighbours` meets its contract. The loop's invariant is `Counted`; the measure is what is left of the
+-- windows.
+-- Assumes nothing.
+use Prim.Native.Nat.{_-_}
+use mathlib.Core.Path.{sym, ap, _∙_}
+use mathlib.Core.Logic.{⊎-elim}
+use native.Mathlib.Omega.{arith}
+use Rattle.plan.specs.Overlap.{overlaps}
+use Rattle.path.proofs.Listing.{Counted, counted-start, counted-more, counted-kept, counted-few, counted-end, listing-neighbours}
+use borrow.Author.Needs.{needs}
+use Rattle.path.proofs.adjacency.count_neighbours.Statement.{statement}
+use Rattle.path.proofs.adjacency.count_neighbours.Tie as tie
+
+abbrev Inv-loop : tie.InvT-loop
+Inv-loop file windows at found₀ position₀ found position = Counted (overlaps file at) windows found position
+
+abbrev μ-loop : tie.MeasureT-loop
+μ-loop file windows at found₀ position₀ found position = windows - position
+
+loop-holds : tie.Need-loop-holds Inv-loop μ-loop
+loop-holds c = counted-start _ _
+
+overlapping-requires : tie.Need-overlapping-requires Inv-loop μ-loop
+overlapping-requires c κs = let d = c .before .before .before in (d .pre .0, (omega arith, omega arith))
+
+add-found : tie.Need-add-found Inv-loop μ-loop
+add-found c = let s = c .before .before .before .loop in omega (arith, counted-few _ _ (s .found) (s .position) (s .inv))
+
+add-position : tie.Need-add-position Inv-loop μ-loop
+add-position c = search needs
+
+loop-less : tie.Need-loop-less Inv-loop μ-loop
+loop-less c = search needs
+
+loop-again : tie.Need-loop-again Inv-loop μ-loop
+loop-again c = let h = c .before .before .loop-test .taken in
+    let s = c .before .before .before .loop .inv in
+    let read = sym (c .before .overlapping .ensures) in
+    ⊎-elim (λ w. rw (w .1) (counted-more _ _ _ _ h (read ∙ w .0 .taken) s)) (λ w. rw (w .1) (counted-kept _ _ _ _ h (read ∙ w .0 .left) s)) (c .if1 .came)
+
+returns : tie.Need-returns Inv-loop μ-loop
+returns c = let d = c .before .before .before in
+    rw (← listing-neighbours _ _ _ (d .pre .1 .0)) (counted-end _ _ _ _ (c .loop-test .left) (c .before .loop .inv))
+
+pub count-neighbours-spec : {M : Type 1} → statement M
+count-neighbours-spec =
+    tie.close
+    (tie.spec
+    Inv-loop
+    μ-loop
+    loop-holds
+    overlapping-requires
+    add-found
+    add-position
+    loop-less
+    loop-again
+    returns)

@@ -1,0 +1,63 @@
+-- `path::chains::write_between` meets its contract: no chain, too little room, or the chain written.
+-- Assumes nothing.
+use mathlib.Core.Path.{_∙_}
+use native.Mathlib.Omega.{arith}
+use Rattle.path.proofs.Handed.{handed-few}
+use Rattle.path.proofs.Walking.{between-apart, between-walked, between-length, rest-none, rest-short, rest-written}
+use borrow.Author.Needs.{needs}
+use Rattle.path.proofs.chains.write_between.Statement.{statement}
+use Rattle.path.proofs.chains.write_between.Tie as tie
+
+steps-before-requires : tie.Need-steps-before-requires
+steps-before-requires c κs = search needs
+
+add-if1 : tie.Need-add-if1
+add-if1 c = search needs
+
+returns : tie.Need-returns
+returns c = let d = c .before .before .before .before .before in
+    rest-none _ _ (between-apart _ _ _ _ _ (d .pre .0 .counted) (d .pre .1 .0) (c .before .steps-before .ensures) (c .if1 .taken))
+
+refusal-requires : tie.Need-refusal-requires
+refusal-requires c κs = search needs
+
+returns-2 : tie.Need-returns-2
+returns-2 c = let d = c .before .before .before .before .before .before .before in
+    rw (c .refusal .ensures) (rest-short _ _ (omega (arith, c .before .if2 .taken, between-length _ _ _ _ _ (d .pre .0 .counted) (d .pre .1 .0) (c .before .before .before .steps-before .ensures) (c .before .before .if1 .left))))
+
+write-walk-requires : tie.Need-write-walk-requires
+write-walk-requires c κs = let d = c .before .before .before .before .before .before .before in
+    (d .pre .0, (omega arith, (d .pre .1 .1, c .before .if2 .left)))
+
+add-t8 : tie.Need-add-t8
+add-t8 c = search needs
+
+cast-t14 : tie.Need-cast-t14
+cast-t14 c = let d = c .before .before .before .before .before .before .before .before .before .before in
+    omega (arith, handed-few (d .pre .0), c .before .before .before .before .before .if1 .left)
+
+same-length : tie.Need-same-length
+same-length c = search needs
+
+returns-3 : tie.Need-returns-3
+returns-3 c = let d = c .before .before .before .before .before .before .before .before .before .before in
+    let e = c .before .before .before .before .before .before .steps-before .ensures in
+    let near = c .before .before .before .before .before .if1 .left in
+    let walked = between-walked _ _ _ _ _ (d .pre .0 .counted) (d .pre .1 .0) e near in
+    let long = between-length _ _ _ _ _ (d .pre .0 .counted) (d .pre .1 .0) e near in
+    rest-written _ _ _ _ long (omega arith) (omega (arith, long, c .before .before .before .before .if2 .left)) (rw walked (c .before .before .write-walk .ensures))
+
+pub write-between-spec : {M : Type 1} → statement M
+write-between-spec =
+    tie.close
+    (tie.spec
+    steps-before-requires
+    add-if1
+    returns
+    refusal-requires
+    returns-2
+    write-walk-requires
+    add-t8
+    cast-t14
+    same-length
+    returns-3)

@@ -1,0 +1,69 @@
+// The windows that overlap one window. They are counted first, so that nothing is written where they do not fit.
+use crate::answers::NeighboursAnswer;
+use crate::answers::refusal;
+use crate::windows::overlapping;
+use plan::Validation;
+ghost use mathlib.Core.Path.{_≡_};
+ghost use Prim.Native.Nat.{_≤_, _<_};
+ghost use lib.ListN.{length};
+ghost use Rattle.sequences.specs.Search.{count};
+ghost use Rattle.sequences.specs.Table.{overwritten};
+ghost use Rattle.plan.specs.File.{windowCount};
+ghost use Rattle.plan.specs.Overlap.{overlaps};
+ghost use Rattle.plan.specs.Validation.{AcceptedPlan};
+ghost use Rattle.path.specs.Neighbours.{neighboursOf, neighboursAnswerOf, afterNeighbours};
+
+fn count_neighbours(file: &[u8], windows: usize, at: usize) -> usize
+    requires { ⌜ AcceptedPlan (now file) ⌝ }
+    requires { ⌜ windows ≡ windowCount (now file) ⌝ }
+    requires { ⌜ at < windows ⌝ }
+    ensures { λ r. ⌜ r ≡ length (neighboursOf (now (file .entry)) at) ⌝ }
+{
+    let mut found = 0;
+    let mut position = 0;
+    while position < windows {
+        if overlapping(file, at, position) {
+            found += 1;
+        }
+        position += 1;
+    }
+    found
+}
+
+fn write_neighbours(file: &[u8], windows: usize, at: usize, out: &mut [u16])
+    requires { ⌜ AcceptedPlan (now file) ⌝ }
+    requires { ⌜ windows ≡ windowCount (now file) ⌝ }
+    requires { ⌜ at < windows ⌝ }
+    requires { ⌜ length (neighboursOf (now file) at) ≤ length (now out) ⌝ }
+    ensures { λ _. ⌜ now (out .exit) ≡ overwritten (now (out .entry)) (neighboursOf (now (file .entry)) at) ⌝ }
+{
+    let mut found = 0;
+    let mut position = 0;
+    while position < windows {
+        if overlapping(file, at, position) {
+            out[found] = position as u16;
+            found += 1;
+        }
+        position += 1;
+    }
+}
+
+// The positions that overlap one window, rising, without itself.
+pub fn neighbours(file: &[u8], at: usize, out: &mut [u16]) -> NeighboursAnswer
+    ensures { λ r. ⌜ r ≡ neighboursAnswerOf (now (file .entry)) at (length (now (out .entry))) ⌝ }
+    ensures { λ r. ⌜ now (out .exit) ≡ afterNeighbours r (neighboursOf (now (file .entry)) at) (now (out .entry)) ⌝ }
+{
+    let windows = match plan::validate(file) {
+        Validation::Accepted { plan: _, windows } => windows,
+        Validation::Refused(refusal) => return NeighboursAnswer::Refused(refusal),
+    };
+    if windows as usize <= at {
+        return NeighboursAnswer::Refused(refusal(7, 0));
+    }
+    let found = count_neighbours(file, windows as usize, at);
+    if out.len() < found {
+        return NeighboursAnswer::Refused(refusal(8, 0));
+    }
+    write_neighbours(file, windows as usize, at, out);
+    NeighboursAnswer::Neighbours(found as u16)
+}
