@@ -10,7 +10,7 @@ fn write_tags(tags: &[u8], windows: usize) {
     if windows <= 2048 {
         let end = 10 * windows;
         if end <= tags.len() {
-            io::write_all(STDOUT_FILENO, &tags[..end]);
+            io::write_all(STDOUT_FILENO, &tags[0..end]);
         }
     }
 }
