@@ -42,14 +42,15 @@ fn print_question(out: i32, number: u8) {
 pub fn print_refusal(out: i32, refusal: Refusal) -> u8
     ensures { λ r. ⌜ r ≡ refusal .number ⌝ }
 {
+    let number = refusal.number;
     io::write_all(out, b"refused ");
-    io::print_decimal(out, refusal.number as u64);
+    io::print_decimal(out, number as u64);
     io::write_all(out, b" ");
     io::print_decimal(out, refusal.input as u64);
     io::write_all(out, b" ");
     io::print_decimal(out, refusal.position as u64);
     io::write_all(out, b": ");
-    print_question(out, refusal.number);
+    print_question(out, number);
     io::write_all(out, b"\n");
-    refusal.number
+    number
 }
