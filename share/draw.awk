@@ -57,6 +57,7 @@ function read_chain(   words) {
     entries = 0
     if (first == "") return
     getline words < chain
+    marked[first + 0] = marked[second + 0] = 1
     if (words == "no chain") return
     entries = split(words, walk, " ")
     for (k = 1; k <= entries; k++) marked[walk[k]] = 1
@@ -119,7 +120,7 @@ function axis(   step, minute) {
 function parents(   v) {
     for (v = 0; v < n; v++) {
         if (parent[v] == v) continue
-        printf "<line x1=\"%s\" y1=\"%s\" x2=\"%s\" y2=\"%s\" stroke=\"%s\" stroke-width=\"%s\" stroke-opacity=\"%s\"/>\n", x(offset[v]), middle(parent[v]), x(offset[v]), middle(v), colour[component[v] % 8], row < 14 ? 0.7 : 1.1, entries ? 0.35 : 0.8
+        printf "<line x1=\"%s\" y1=\"%s\" x2=\"%s\" y2=\"%s\" stroke=\"%s\" stroke-width=\"%s\" stroke-opacity=\"%s\"/>\n", x(offset[v]), middle(parent[v]), x(offset[v]), middle(v), colour[component[v] % 8], row < 14 ? 0.7 : 1.1, first != "" ? 0.35 : 0.8
     }
 }
 
@@ -128,7 +129,7 @@ function bars(   v, wide, high, faint) {
     for (v = 0; v < n; v++) {
         wide = x(offset[v] + length_of[v]) - x(offset[v])
         if (wide < 1.5) wide = 1.5
-        faint = entries && !(v in marked)
+        faint = first != "" && !(v in marked)
         printf "<rect x=\"%s\" y=\"%.1f\" width=\"%.1f\" height=\"%.1f\" rx=\"%s\" fill=\"%s\" fill-opacity=\"%s\"%s>", x(offset[v]), y(v) + (row - high) / 2, wide, high, row < 14 ? 1 : 2.5, colour[component[v] % 8], faint ? 0.35 : 1, (v in marked) ? " stroke=\"#111111\" stroke-width=\"1.5\"" : ""
         printf "<title>window %d: minutes %s to %s, component %d, depth %d, %s</title></rect>\n", v, minutes(offset[v]), minutes(offset[v] + length_of[v]), component[v], depth[v], parent[v] == v ? "a root" : "parent " parent[v]
         if (row >= 10 || v % 10 == 0 || (v in marked)) text(left - 10, y(v) + row / 2 + (row < 14 ? 3 : 4), row < 14 ? 8.5 : 12, "end", (v in marked) ? "#111111" : "#777777", (v in marked) ? "<tspan font-weight=\"bold\">" v "</tspan>" : v)
