@@ -1,0 +1,34 @@
+// The listing of the plan file on standard input: `PLAN WINDOWS COMPONENTS`, and a row for each window with its position,
+// parent, component, depth, rank and rank of the last; or `refused NUMBER POSITION`.
+use libc::STDIN_FILENO;
+use libc::STDOUT_FILENO;
+
+fn main() {
+    // One byte more than any plan, so that a file that is too long is seen to be.
+    let mut file = [0; 16389];
+    let read = io::read_full(STDIN_FILENO, &mut file);
+    let mut parents = [0; 2048];
+    let mut components = [0; 2048];
+    let mut depths = [0; 2048];
+    let mut ranks = [0; 2048];
+    let mut last_ranks = [0; 2048];
+    let mut tags = [0; 20480];
+    let answer = tree::build(
+        &file[..read],
+        &mut parents,
+        &mut components,
+        &mut depths,
+        &mut ranks,
+        &mut last_ranks,
+        &mut tags,
+    );
+    report::print_listing(
+        STDOUT_FILENO,
+        answer,
+        &parents,
+        &components,
+        &depths,
+        &ranks,
+        &last_ranks,
+    );
+}

@@ -1,0 +1,2 @@
+-- What the printing calls hand back.
+pub mod Printed

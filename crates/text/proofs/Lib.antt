@@ -1,0 +1,4 @@
+-- Laws of text.
+pub mod Digits
+pub mod Stops
+pub mod Cuts
