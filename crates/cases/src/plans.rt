@@ -160,8 +160,8 @@ fn refuse_lengths() {
     build(b"n = 0 in 5 bytes", &[12, 0, 0, 0, 0]);
 }
 
-// Questions 4 to 6, about each window.
-fn refuse_windows() {
+// Question 4.
+fn refuse_empty_windows() {
     build(b"length 0", &files::two_windows(5, 5, 5, 0));
     build(
         b"length 0 and a falling offset",
@@ -171,6 +171,10 @@ fn refuse_windows() {
         b"length 0 and a sum over the limit",
         &files::two_windows(5, 5, 10000001, 0),
     );
+}
+
+// Question 5, of the true sum.
+fn refuse_sums() {
     build(b"sum 10,000,000", &files::one_window(9999999, 1));
     build(b"sum 10,000,001", &files::one_window(9999999, 2));
     build(
@@ -181,12 +185,20 @@ fn refuse_windows() {
         b"sum of 4,294,967,295 and 1",
         &files::one_window(4294967295, 1),
     );
+}
+
+// Question 6.
+fn refuse_orders() {
     build(b"a falling offset", &files::two_windows(5, 5, 4, 5));
     build(
         b"a falling offset and a sum over the limit",
         &files::two_windows(5, 5, 4, 9999997),
     );
     build(b"equal offsets", &files::two_windows(5, 5, 5, 5));
+}
+
+// Windows that touch, and windows that overlap.
+fn touch() {
     list(b"touching", &files::two_windows(0, 10, 10, 5));
     list(b"one minute shared", &files::two_windows(0, 11, 10, 5));
 }
@@ -206,7 +218,10 @@ fn largest() {
 pub(crate) fn run() {
     list(b"plan 12", &files::plan_12());
     refuse_lengths();
-    refuse_windows();
+    refuse_empty_windows();
+    refuse_sums();
+    refuse_orders();
+    touch();
     largest();
     refuse_tables();
     refuse_tags();

@@ -119,6 +119,9 @@ fn refused_tags(valid: &[u8]) {
     count(b"9 bytes first", &[0; 9], valid);
     count(b"11 bytes second", valid, &[0; 11]);
     count(b"no bytes, and 11 bytes", &[0; 0], &[0; 11]);
+}
+
+fn refused_fields(valid: &[u8]) {
     count(b"a depth of 2,048 first", &tag_of(12, 0, 2048, 3, 2), valid);
     count(b"a last of 2,048 second", valid, &tag_of(12, 0, 1, 3, 2048));
     count(
@@ -135,6 +138,9 @@ fn refused_pairs(valid: &[u8]) {
         valid,
         &tag_of(13, 0, 2, 3, 2),
     );
+}
+
+fn one_rank(valid: &[u8]) {
     count(b"one rank at two depths", valid, &tag_of(12, 0, 2, 3, 2));
     count(b"one rank with two lasts", valid, &tag_of(12, 0, 1, 3, 1));
     count(
@@ -149,10 +155,13 @@ fn refused_pairs(valid: &[u8]) {
     );
 }
 
-fn reads_and_writes() {
+fn reads() {
     read(b"read of 12 1 2 3 4", &tag_of(12, 1, 2, 3, 4));
     read(b"read of a component of 2,048", &tag_of(12, 2048, 2, 3, 4));
     read(b"read of 9 bytes", &[0; 9]);
+}
+
+fn writes() {
     let mut out = [9; 12];
     write(b"write of a component of 2,048", 2048, 4, &mut out);
     write(b"write of a last of 2,048", 1, 2048, &mut out);
@@ -168,6 +177,9 @@ pub(crate) fn run() {
     counts(&plan_12_tags());
     lookups(&plan_12_tags());
     refused_tags(&tag_of(12, 0, 1, 3, 2));
+    refused_fields(&tag_of(12, 0, 1, 3, 2));
     refused_pairs(&tag_of(12, 0, 1, 3, 2));
-    reads_and_writes();
+    one_rank(&tag_of(12, 0, 1, 3, 2));
+    reads();
+    writes();
 }

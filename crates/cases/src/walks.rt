@@ -107,11 +107,14 @@ fn refused_chains(file: &[u8]) {
     );
 }
 
-fn others(file: &[u8]) {
+fn neighbourhoods(file: &[u8]) {
     neighbours(b"neighbours of 2", file, 2);
     neighbours(b"neighbours of 0", file, 0);
     neighbours(b"neighbours of 6", file, 6);
     neighbours(b"neighbours of 7", file, 7);
+}
+
+fn reaches(file: &[u8]) {
     reach(b"reach of 0", file, 0);
     reach(b"reach of 5", file, 5);
     reach(b"reach of 6", file, 6);
@@ -127,6 +130,9 @@ fn sameness(file: &[u8], apart: &[u8], joined: &[u8]) {
         &files::two_windows(5, 5, 5, 5),
     );
     same(b"touching and overlapping", apart, joined);
+}
+
+fn other_sameness(file: &[u8], joined: &[u8]) {
     same(b"7 windows and 2", file, joined);
     same(b"a refused first plan", &[12, 0, 0], &[12, 0, 0]);
     same(
@@ -159,12 +165,14 @@ pub(crate) fn run() {
     chains(&files::plan_12());
     refused_chains(&files::plan_12());
     chain_room();
-    others(&files::plan_12());
+    neighbourhoods(&files::plan_12());
+    reaches(&files::plan_12());
     neighbours_room();
     sameness(
         &files::plan_12(),
         &files::two_windows(0, 10, 10, 5),
         &files::two_windows(0, 11, 10, 5),
     );
+    other_sameness(&files::plan_12(), &files::two_windows(0, 11, 10, 5));
     staircase();
 }
