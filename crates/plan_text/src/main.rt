@@ -6,15 +6,10 @@ use libc::STDERR_FILENO;
 use libc::STDIN_FILENO;
 use libc::STDOUT_FILENO;
 use making::make_plan;
+use making::print_line_number;
 use plan::Validation;
 use text::Decimal;
 use wire::Refusal;
-
-fn print_line_number(number: usize) {
-    io::write_all(STDERR_FILENO, b"line ");
-    io::print_decimal(STDERR_FILENO, number as u64);
-    io::write_all(STDERR_FILENO, b": ");
-}
 
 // The line that a refused window stands on goes first; a refusal of the whole plan has none.
 fn print_refused(refusal: Refusal, lines: &[usize; 2049]) {
@@ -45,12 +40,8 @@ fn write_made(plan: u16, text: &[u8]) {
     let mut lines = [0; 2049];
     let made = make_plan(text, &mut file, &mut lines);
     let windows = made.windows;
+    // What is wrong has been said.
     if !made.whole {
-        print_line_number(made.line);
-        io::write_all(
-            STDERR_FILENO,
-            b"give an offset and a length, two decimal numbers below 4,294,967,296\n",
-        );
         return;
     }
     wire::write_u16(&mut file, 0, plan);

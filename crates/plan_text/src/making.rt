@@ -1,9 +1,10 @@
 // The windows of a plan file, from lines of text.
+use libc::STDERR_FILENO;
 use text::Line;
 ghost use Prim.Native.Nat.{_+_, _≤_, _<_};
 ghost use lib.ListN.{length};
 
-// How many windows there are, and whether all lines were read; where not, which line is wrong, counted from 1.
+// How many windows there are, and whether all lines were read; the last line that was read, counted from 1.
 pub struct Made {
     pub whole: bool,
     pub windows: usize,
@@ -38,6 +39,26 @@ fn put_window(
     windows + 1
 }
 
+pub(crate) fn print_line_number(line: usize) {
+    io::write_all(STDERR_FILENO, b"line ");
+    io::print_decimal(STDERR_FILENO, line as u64);
+    io::write_all(STDERR_FILENO, b": ");
+}
+
+// Says what is wrong with a line.
+fn wrong(words: &[u8], windows: usize, line: usize) -> Made
+    requires { ⌜ windows ≤ 2049 ⌝ }
+    ensures { λ r. ⌜ r .windows ≤ 2049 ⌝ }
+{
+    print_line_number(line);
+    io::write_all(STDERR_FILENO, words);
+    Made {
+        whole: false,
+        windows,
+        line,
+    }
+}
+
 // Takes one line.
 fn take_line(
     words: &[u8],
@@ -60,11 +81,13 @@ fn take_line(
             windows,
             line,
         },
-        _ => Made {
-            whole: false,
+        Line::NoLength => wrong(b"the length is missing\n", windows, line),
+        Line::TooMuch => wrong(b"something stands behind the length\n", windows, line),
+        Line::NotNumbers => wrong(
+            b"offset and length are decimal numbers below 4,294,967,296\n",
             windows,
             line,
-        },
+        ),
     }
 }
 
