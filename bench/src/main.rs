@@ -8,25 +8,14 @@ mod plans;
 mod search;
 mod time;
 
+#[path = "../../include/poddreshi.rs"]
+mod interface;
+
+use interface::{poddreshi_build, poddreshi_chain, poddreshi_neighbours, poddreshi_pair};
 use plans::{Case, SHAPES};
 use search::{Graph, Library, Scratch};
 use std::hint::black_box;
 use time::{medians, times};
-
-extern "C" {
-    fn poddreshi_build(
-        file: *const u8, length: usize,
-        parents: *mut u16, parents_length: usize,
-        components: *mut u16, components_length: usize,
-        depths: *mut u16, depths_length: usize,
-        ranks: *mut u16, ranks_length: usize,
-        last_ranks: *mut u16, last_ranks_length: usize,
-        tags: *mut u8, tags_length: usize,
-    ) -> u64;
-    fn poddreshi_pair(first: *const u8, first_length: usize, second: *const u8, second_length: usize) -> u64;
-    fn poddreshi_chain(file: *const u8, length: usize, first: usize, second: usize, out: *mut u16, room: usize) -> u64;
-    fn poddreshi_neighbours(file: *const u8, length: usize, at: usize, out: *mut u16, room: usize) -> u64;
-}
 
 const NO_CHAIN: u64 = 5;
 

@@ -2,26 +2,10 @@
 //! buffer of random content, of which all but the table's first entries must stay.
 use crate::oracle::Refusal;
 use crate::random::Random;
+use interface::*;
 
-extern "C" {
-    fn poddreshi_validate(file: *const u8, length: usize) -> u64;
-    fn poddreshi_build(
-        file: *const u8, length: usize,
-        parents: *mut u16, parents_length: usize,
-        components: *mut u16, components_length: usize,
-        depths: *mut u16, depths_length: usize,
-        ranks: *mut u16, ranks_length: usize,
-        last_ranks: *mut u16, last_ranks_length: usize,
-        tags: *mut u8, tags_length: usize,
-    ) -> u64;
-    fn poddreshi_reach(file: *const u8, length: usize, at: usize) -> u64;
-    fn poddreshi_chain(file: *const u8, length: usize, first: usize, second: usize, out: *mut u16, out_length: usize) -> u64;
-    fn poddreshi_neighbours(file: *const u8, length: usize, at: usize, out: *mut u16, out_length: usize) -> u64;
-    fn poddreshi_same(first: *const u8, first_length: usize, second: *const u8, second_length: usize) -> u64;
-    fn poddreshi_pair(first: *const u8, first_length: usize, second: *const u8, second_length: usize) -> u64;
-    fn poddreshi_lookup(tags: *const u8, length: usize, at: usize, offset: *mut usize) -> u64;
-    fn poddreshi_write(plan: u16, component: u16, depth: u16, rank: u16, last: u16, out: *mut u8, length: usize) -> u64;
-}
+#[path = "../../include/poddreshi.rs"]
+mod interface;
 
 #[derive(Clone, Copy, PartialEq, Eq, Debug)]
 pub enum Answer {
