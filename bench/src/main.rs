@@ -104,26 +104,36 @@ fn row(case: &Case, call: &str, ours: f64, hand: f64) {
     println!("| {} | {} | {call} | {} | {} | {:.2} |", case.name, case.n, times(ours), times(hand), ours / hand);
 }
 
-/// The time of a build, and how many times longer the graph library's search takes than a pair call.
-fn measure(case: &Case) -> (f64, f64) {
+/// Answers with how many times longer the graph library's search takes than a pair call.
+fn measure(case: &Case) -> f64 {
     let graph = Graph::of(&case.windows);
     let library = Library::of(&graph);
     compare(case, &graph, &library);
-    let build_time = measure_build(case);
+    measure_build(case);
     let pair_time = measure_pair(case);
     measure_plan_calls(case);
-    (build_time, searches(case, &graph, &library, pair_time))
+    searches(case, &graph, &library, pair_time)
 }
 
-fn measure_build(case: &Case) -> f64 {
+fn build_all(case: &Case, lent: &mut Tables) {
+    case.files.iter().for_each(|file| keep(build(file, lent)));
+}
+
+fn measure_build(case: &Case) {
     let (mut ours, mut theirs) = (Tables::new(case.n), Tables::new(case.n));
     let [a, b] = medians(
-        &mut || case.files.iter().for_each(|file| keep(build(file, &mut ours))),
+        &mut || build_all(case, &mut ours),
         &mut || case.files.iter().for_each(|file| keep(build_by_hand(file, &mut theirs))),
     );
     let plans = case.files.len() as f64;
     row(case, "build", a / plans, b / plans);
-    a / plans
+}
+
+/// How many times longer build takes for twice the windows, both measured turn by turn.
+fn measure_growth(small: &Case, large: &Case) -> f64 {
+    let (mut few, mut many) = (Tables::new(small.n), Tables::new(large.n));
+    let [a, b] = medians(&mut || build_all(small, &mut few), &mut || build_all(large, &mut many));
+    b / a
 }
 
 fn measure_pair(case: &Case) -> f64 {
@@ -196,15 +206,10 @@ fn main() {
     let mut growth = Vec::new();
     let mut library = Vec::new();
     for shape in SHAPES {
-        let mut last = 0.0;
-        for n in [256, 1024, 2048] {
-            let (build_time, ratio) = measure(&Case::new(shape, n));
-            if n == 2048 {
-                growth.push(format!("{} {:.2}", shape.name(), build_time / last));
-                library.push(format!("{} {ratio:.0}", shape.name()));
-            }
-            last = build_time;
-        }
+        let cases = [256, 1024, 2048].map(|n| Case::new(shape, n));
+        let ratios = cases.each_ref().map(measure);
+        growth.push(format!("{} {:.2}", shape.name(), measure_growth(&cases[1], &cases[2])));
+        library.push(format!("{} {:.0}", shape.name(), ratios[2]));
     }
     println!("\nBuild at 2,048 windows over build at 1,024: {}.", growth.join(", "));
     println!("Boost Graph's search over a pair call at 2,048 windows (0: not there): {}.", library.join(", "));

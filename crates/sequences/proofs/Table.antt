@@ -7,7 +7,7 @@ use mathlib.Core.List.{List, [], _∷_, _++_, append-assoc}
 use native.Mathlib.Omega.{arith}
 use native.Mathlib.Numerals.{add-one}
 use lib.ListN.{length, getD, take, drop, set, length-append, length-drop, length-set, List·getD-append}
-use lib.Seq.{set-at, drop-cons, take-at, getD-at}
+use lib.Seq.{set-at, drop-cons, take-at, getD-at, getD-drop, getD-append-add}
 use Rattle.sequences.specs.Table.{table, overwritten, Holds}
 use Rattle.sequences.proofs.Tests.{lt-or-ge}
 
@@ -56,6 +56,15 @@ module _ {A : Type 0} where
   pub overwritten-table : (f : ℕ → A) (n : ℕ) (l : List A) → overwritten l (table f n) ≡ table f n ++ drop n l
   unfolding overwritten
   overwritten-table f n l = rw length-table
+
+  -- What lies past it stays.
+  pub overwritten-past : (f : ℕ → A) (n : ℕ) (l : List A) (k : ℕ) (d : A) → n ≤ k → getD (overwritten l (table f n)) k d ≡ getD l k d
+  overwritten-past f n l k d h =
+      let there : k ≡ length (table f n) + (k - n) = omega (arith, length-table f n) in
+      let here : n + (k - n) ≡ k = omega arith in
+      rw (overwritten-table f n l)
+      (ap (λ i. getD (table f n ++ drop n l) i d) there ∙ getD-append-add (table f n) (drop n l) (k - n) d ∙ getD-drop n l (k - n) d
+      ∙ ap (λ i. getD l i d) here)
 
 -- A table of n entries that a pass is writing from the front, before the entry v: the entries before it are f's, the rest is
 -- as it was.

@@ -23,7 +23,7 @@ use Rattle.plan.specs.Overlap.{overlaps}
 use Rattle.plan.proofs.Accepted.{accepted-sound, offsets-sorted}
 use Rattle.plan.proofs.Overlap.{overlaps-end, interval-order}
 use Rattle.tree.specs.Tables.{offsetAt, endAt, parentOf, lastOf}
-use Rattle.tree.specs.Passes.{Prepared, FirstPast, Sorted, LastBefore}
+use Rattle.tree.specs.Passes.{Prepared, FirstPast, Padded, Sorted, LastBefore}
 
 -- No window before `finger` overlaps one from v on.
 abbrev Behind : List ℕ → ℕ → ℕ → ℕ → Type 0
@@ -84,26 +84,62 @@ module _ {file : List ℕ} {windows : ℕ} {offsets ends : List ℕ} (p : Prepar
           filling = filling-turn (parentOf file) windows parents₀ parents v r room within (parent-found finger v r within (s .behind) found) (s .filling);
         }
 
-  -- What the search for the last finds is the last.
-  pub last-found : (u r : ℕ) → u < windows → LastBefore offsets (getD ends u 0) u windows r → r ≡ lastOf file u
-  unfolding lastOf
-  last-found u r within found = rw (← p .counted) (sym (le-antisymm upper lower))
-    where
-      order : IntervalOrder windows (overlaps file)
-      order = rw (p .counted) (interval-order file (p .accepted))
+  ends-early : (u : ℕ) → u < windows → getD ends u 0 ≤ 4294967295
+  unfolding endAt
+  ends-early u within = omega (arith, p .ends-held .at u within, accepted-sound file (p .accepted) .early u (omega (arith, p .counted)))
 
-      upper : last windows (overlaps file) u ≤ r
-      upper =
-          ⊎-elim
-          (λ c. ⊎-elim (λ h. absurd (true-false-absurd _ (c .2) (ends-before u (last windows (overlaps file) u) (c .0) (c .1) (found .past _ h (c .1))))) (λ h. h) (lt-or-ge r (last windows (overlaps file) u)))
-          (λ e. omega (arith, e, found .low))
-          (last-cases windows (overlaps file) u)
+  -- A window begins before it ends.
+  own-offset : (u : ℕ) → u < windows → getD offsets u 0 < getD ends u 0
+  unfolding offsetAt endAt endOf
+  own-offset u within =
+      omega (
+        arith,
+        p .offsets-held .at u within,
+        p .ends-held .at u within,
+        accepted-sound file (p .accepted) .long u (omega (arith, p .counted)),
+      )
 
-      lower : r ≤ last windows (overlaps file) u
-      lower =
-          ⊎-elim (λ h. overlap-last order u r h (found .high) (ends-past u r h (found .high) (found .before h)))
-          (λ h. omega (arith, last-ge order u))
-          (lt-or-ge u r)
+  module _ (q : Padded offsets windows) where
+    pub padded-do-not-fall : Sorted offsets 2048
+    padded-do-not-fall i j le within =
+        ⊎-elim (λ h. offsets-do-not-fall i j le h)
+        (λ h. rw (q .rest j h within) (⊎-elim (λ g. omega (arith, own-offset i g, ends-early i g)) (λ g. omega (arith, q .rest i g (omega arith))) (lt-or-ge i windows)))
+        (lt-or-ge j windows)
+
+    module _ (u r : ℕ) (within : u < windows) (found : LastBefore offsets (getD ends u 0) 2048 r) where
+      -- The search finds no window before its own, and none of what the table is filled up with.
+      found-late : u ≤ r
+      found-late =
+          ⊎-elim (λ h. absurd (omega (arith, own-offset u within, found .past u h (omega (arith, windows-few)))))
+          (λ h. h)
+          (lt-or-ge r u)
+
+      pub found-window : r < windows
+      found-window =
+          ⊎-elim (λ h. h)
+          (λ h. absurd (omega (arith, found .before (omega arith), q .rest r h (found .high), ends-early u within)))
+          (lt-or-ge r windows)
+
+      -- What it finds is the last.
+      pub last-found : r ≡ lastOf file u
+      unfolding lastOf
+      last-found = rw (← p .counted) (sym (le-antisymm upper lower))
+        where
+          order : IntervalOrder windows (overlaps file)
+          order = rw (p .counted) (interval-order file (p .accepted))
+
+          upper : last windows (overlaps file) u ≤ r
+          upper =
+              ⊎-elim
+              (λ c. ⊎-elim (λ h. absurd (true-false-absurd _ (c .2) (ends-before u (last windows (overlaps file) u) (c .0) (c .1) (found .past _ h (omega (arith, c .1, windows-few)))))) (λ h. h) (lt-or-ge r (last windows (overlaps file) u)))
+              (λ e. omega (arith, e, found-late))
+              (last-cases windows (overlaps file) u)
+
+          lower : r ≤ last windows (overlaps file) u
+          lower =
+              ⊎-elim (λ h. overlap-last order u r h found-window (ends-past u r h found-window (found .before (omega arith))))
+              (λ h. omega (arith, last-ge order u))
+              (lt-or-ge u r)
 
 pub fingers-start : (file : List ℕ) (windows : ℕ) (parents₀ : List ℕ) → Fingers file windows parents₀ parents₀ 0 0
 fingers-start file windows parents₀ =

@@ -1,17 +1,17 @@
 -- The pass that reads the windows: where they lie in the file of an accepted plan, and that their ends fit.
 -- Assumes nothing.
 use Prim.Native.Nat.{ℕ, _+_, _*_, _≤_, _<_}
-use mathlib.Core.Path.{_≡_, ap}
+use mathlib.Core.Path.{_≡_, refl, ap, _∙_}
 use mathlib.Core.List.{List}
 use native.Mathlib.Omega.{arith}
-use lib.ListN.{length}
+use lib.ListN.{length, replicate, length-replicate, getD-replicate}
 use Rattle.sequences.specs.Table.{table, overwritten}
-use Rattle.sequences.proofs.Table.{overwritten-holds}
+use Rattle.sequences.proofs.Table.{length-table, length-overwritten, overwritten-past, overwritten-holds}
 use Rattle.plan.specs.declared.windows.Window.{Window}
 use Rattle.plan.specs.File.{headerLength, windowLength, fileLength, windowCount, windowAt, endOf}
 use Rattle.plan.specs.Validation.{AcceptedPlan}
 use Rattle.tree.specs.Tables.{offsetAt, endAt}
-use Rattle.tree.specs.Passes.{Prepared}
+use Rattle.tree.specs.Passes.{Prepared, Padded}
 use Rattle.plan.proofs.Accepted.{Sound, accepted-sound}
 
 -- The eight bytes of a window of an accepted plan lie in its file, and its end fits.
@@ -46,3 +46,14 @@ prepared-read file windows offsets₀ ends₀ offsets ends ok counted o e f g =
       offsets-held = overwritten-holds (offsetAt file) windows offsets₀ offsets o f;
       ends-held = overwritten-holds (endAt file) windows ends₀ ends e g;
     }
+
+-- Where the table of offsets was full of the greatest number, it still is past the windows.
+pub padded-read : (file : List ℕ) (windows : ℕ) (offsets : List ℕ) → windows ≤ 2048 → offsets ≡ overwritten (replicate 2048 4294967295) (table (offsetAt file) windows) → Padded offsets windows
+padded-read file windows offsets few e = filled 2048 few e refl
+  where
+    filled : (n : ℕ) → windows ≤ n → offsets ≡ overwritten (replicate n 4294967295) (table (offsetAt file) windows) → n ≡ 2048 → Padded offsets windows
+    filled n room written size =
+        record {
+          long = rw written (omega (arith, size, length-overwritten (replicate n 4294967295) (table (offsetAt file) windows) (omega (arith, length-replicate {A = ℕ} n 4294967295, length-table (offsetAt file) windows)), length-replicate {A = ℕ} n 4294967295));
+          rest = λ k h within. rw written (overwritten-past (offsetAt file) windows (replicate n 4294967295) k 0 h ∙ getD-replicate n k 4294967295 0 (omega arith));
+        }

@@ -1,10 +1,10 @@
 -- What the passes are handed and what the searches inside them find. Nothing here has to be believed: no public promise
 -- cites it.
--- Vocabulary: Prepared, Parented, Numbered, FirstPast, Sorted, LastBefore.
+-- Vocabulary: Prepared, Parented, Numbered, FirstPast, Padded, Sorted, LastBefore.
 use Prim.Native.Nat.{ℕ, _≤_, _<_}
 use mathlib.Core.Path.{_≡_}
 use mathlib.Core.List.{List}
-use lib.ListN.{getD}
+use lib.ListN.{length, getD}
 use Rattle.sequences.specs.Table.{Holds}
 use Rattle.plan.specs.File.{windowCount}
 use Rattle.plan.specs.Validation.{AcceptedPlan}
@@ -39,13 +39,17 @@ pub record FirstPast (ends : List ℕ) (offset from to r : ℕ) : Type 0 where
   pub past : r < to → offset < getD ends r 0
   pub before : (k : ℕ) → from ≤ k → k < r → getD ends k 0 ≤ offset
 
+-- A table of 2,048 offsets that is filled up, from the last window on, with a number that no end lies past.
+pub record Padded (offsets : List ℕ) (windows : ℕ) : Type 0 where
+  pub long : length offsets ≡ 2048
+  pub rest : (k : ℕ) → windows ≤ k → k < 2048 → getD offsets k 0 ≡ 4294967295
+
 -- The first n entries do not fall.
 abbrev pub Sorted : List ℕ → ℕ → Type 0
 Sorted l n = (i j : ℕ) → i ≤ j → j < n → getD l i 0 ≤ getD l j 0
 
--- r is the last position from `from` on, below `to`, whose offset lies before the end, or `from`.
-pub record LastBefore (offsets : List ℕ) (end from to r : ℕ) : Type 0 where
-  pub low : from ≤ r
-  pub high : r < to
-  pub before : from < r → getD offsets r 0 < end
-  pub past : (k : ℕ) → r < k → k < to → end ≤ getD offsets k 0
+-- r is the last of the first `size` positions whose offset lies before the end, or 0.
+pub record LastBefore (offsets : List ℕ) (end size r : ℕ) : Type 0 where
+  pub high : r < size
+  pub before : 0 < r → getD offsets r 0 < end
+  pub past : (k : ℕ) → r < k → k < size → end ≤ getD offsets k 0

@@ -61,7 +61,7 @@ fn fill_parents_and_lasts(file: &[u8], windows: usize, parents: &mut [u16], last
     ensures { λ _. ⌜ now (parents .exit) ≡ overwritten (now (parents .entry)) (table (parentOf (now (file .entry))) windows) ⌝ }
     ensures { λ _. ⌜ now (lasts .exit) ≡ overwritten (now (lasts .entry)) (table (lastOf (now (file .entry))) windows) ⌝ }
 {
-    let mut offsets = [0; 2048];
+    let mut offsets = [4294967295; 2048];
     let mut ends = [0; 2048];
     read_spans(file, windows, &mut offsets, &mut ends);
     find_parents(file, windows, &offsets, &ends, parents);

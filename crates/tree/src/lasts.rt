@@ -11,24 +11,21 @@ ghost use Rattle.tree.specs.Tables.{lastOf};
 ghost use Rattle.plan.specs.File.{windowCount};
 ghost use Rattle.plan.specs.Validation.{AcceptedPlan};
 ghost use Rattle.tree.specs.SingleTable.{tableOf, afterTable};
-ghost use Rattle.tree.specs.Passes.{Prepared, Sorted, LastBefore};
+ghost use Rattle.tree.specs.Passes.{Prepared, Padded, Sorted, LastBefore};
 
-// The last position from `from` on, below `to`, whose offset lies before the end; `from` itself where there is none.
-fn last_before(offsets: &[u32], end: u32, from: usize, to: usize) -> usize
-    requires { ⌜ from < to ⌝ }
-    requires { ⌜ to ≤ length (now offsets) ⌝ }
-    requires { ⌜ Sorted (now offsets) to ⌝ }
-    ensures { λ r. ⌜ LastBefore (now (offsets .entry)) end from to r ⌝ }
+// The last position whose offset lies before the end; 0 where there is none. The table is as long for every plan and the
+// comparison is a factor, so that the search compiles to no branch that a processor would have to guess.
+fn last_before(offsets: &[u32], end: u32) -> usize
+    requires { ⌜ 2048 ≤ length (now offsets) ⌝ }
+    requires { ⌜ Sorted (now offsets) 2048 ⌝ }
+    ensures { λ r. ⌜ LastBefore (now (offsets .entry)) end 2048 r ⌝ }
 {
-    let mut low = from;
-    let mut high = to;
-    while 1 < high - low {
-        let middle = low + (high - low) / 2;
-        if offsets[middle] < end {
-            low = middle;
-        } else {
-            high = middle;
-        }
+    let mut low = 0;
+    let mut width = 2048;
+    while 1 < width {
+        let half = width / 2;
+        low += half * ((offsets[low + half] < end) as usize);
+        width -= half;
     }
     low
 }
@@ -41,12 +38,13 @@ pub(crate) fn find_lasts(
     lasts: &mut [u16],
 )
     requires { ⌜ Prepared (now file) windows (now offsets) (now ends) ⌝ }
+    requires { ⌜ Padded (now offsets) windows ⌝ }
     requires { ⌜ windows ≤ length (now lasts) ⌝ }
     ensures { λ _. ⌜ now (lasts .exit) ≡ overwritten (now (lasts .entry)) (table (lastOf (now (file .entry))) windows) ⌝ }
 {
     let mut position = 0;
     while position < windows {
-        lasts[position] = last_before(offsets, ends[position], position, windows) as u16;
+        lasts[position] = last_before(offsets, ends[position]) as u16;
         position += 1;
     }
 }
@@ -57,7 +55,7 @@ fn fill_lasts(file: &[u8], windows: usize, lasts: &mut [u16])
     requires { ⌜ windows ≤ length (now lasts) ⌝ }
     ensures { λ _. ⌜ now (lasts .exit) ≡ overwritten (now (lasts .entry)) (table (lastOf (now (file .entry))) windows) ⌝ }
 {
-    let mut offsets = [0; 2048];
+    let mut offsets = [4294967295; 2048];
     let mut ends = [0; 2048];
     read_spans(file, windows, &mut offsets, &mut ends);
     find_lasts(file, windows, &offsets, &ends, lasts);

@@ -1,6 +1,6 @@
 -- `tree::building::fill_parents_and_lasts` meets its contract: the windows are read once, and both passes use them.
 -- Assumes nothing.
-use Rattle.tree.proofs.Reading.{windows-fit, prepared-read}
+use Rattle.tree.proofs.Reading.{windows-fit, prepared-read, padded-read}
 use borrow.Author.Needs.{needs}
 use Rattle.tree.proofs.building.fill_parents_and_lasts.Statement.{statement}
 use Rattle.tree.proofs.building.fill_parents_and_lasts.Tie as tie
@@ -38,7 +38,7 @@ find-lasts-requires : tie.Need-find-lasts-requires
 find-lasts-requires c κs = let q = c .before .before .before .before .before .before .before .before .before .before .before .before .before .before .before .before .before .pre in
     let fits = windows-fit _ _ (q .0) (q .1 .0) in
     let read = c .before .before .before .before .before .before .before .before .before .before .before .read-spans .ensures in
-    (prepared-read _ _ _ _ _ _ (q .0) (q .1 .0) fits fits (read .0) (read .1), q .1 .1 .1)
+    (prepared-read _ _ _ _ _ _ (q .0) (q .1 .0) fits fits (read .0) (read .1), (padded-read _ _ _ fits (read .0), q .1 .1 .1))
 
 same-length : tie.Need-same-length
 same-length c = search needs

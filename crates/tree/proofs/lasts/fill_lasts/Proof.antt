@@ -2,7 +2,7 @@
 -- fills its own.
 -- Assumes nothing.
 use native.Mathlib.Omega.{arith}
-use Rattle.tree.proofs.Reading.{windows-fit, prepared-read}
+use Rattle.tree.proofs.Reading.{windows-fit, prepared-read, padded-read}
 use borrow.Author.Needs.{needs}
 use Rattle.tree.proofs.lasts.fill_lasts.Statement.{statement}
 use Rattle.tree.proofs.lasts.fill_lasts.Tie as tie
@@ -28,7 +28,7 @@ find-lasts-requires : tie.Need-find-lasts-requires
 find-lasts-requires c κs = let d = c .before .before .before .before .before .before .before .before .before .before in
     let fits = windows-fit _ _ (d .pre .0) (d .pre .1 .0) in
     let read = c .before .before .before .before .before .read-spans .ensures in
-    (prepared-read _ _ _ _ _ _ (d .pre .0) (d .pre .1 .0) fits fits (read .0) (read .1), d .pre .1 .1)
+    (prepared-read _ _ _ _ _ _ (d .pre .0) (d .pre .1 .0) fits fits (read .0) (read .1), (padded-read _ _ _ fits (read .0), d .pre .1 .1))
 
 same-length : tie.Need-same-length
 same-length c = search needs

@@ -5,7 +5,7 @@ use Prim.Native.Nat.{_-_}
 use native.Mathlib.Omega.{arith}
 use Rattle.sequences.proofs.Table.{Filling, filling-start, filling-turn, filling-end}
 use Rattle.tree.specs.Tables.{lastOf}
-use Rattle.tree.proofs.Prepared.{offsets-do-not-fall, last-found, windows-few}
+use Rattle.tree.proofs.Prepared.{padded-do-not-fall, last-found}
 use borrow.Author.Needs.{needs}
 use Rattle.tree.proofs.lasts.find_lasts.Statement.{statement}
 use Rattle.tree.proofs.lasts.find_lasts.Tie as tie
@@ -27,11 +27,11 @@ shared-slice-read-last-before c = search needs
 
 last-before-requires : tie.Need-last-before-requires Inv-loop μ-loop
 last-before-requires c κs = let d = c .before .before .before .before .before .before .before in
-    (c .before .loop-test .taken, (search needs, offsets-do-not-fall (d .pre .0)))
+    (omega (arith, d .pre .1 .0 .long), padded-do-not-fall (d .pre .0) (d .pre .1 .0))
 
 cast-lasts : tie.Need-cast-lasts Inv-loop μ-loop
 cast-lasts c = let d = c .before .before .before .before .before .before .before .before in
-    omega (arith, c .last-before .ensures .high, windows-few (d .pre .0))
+    omega (arith, c .last-before .ensures .high)
 
 mul-lasts : tie.Need-mul-lasts Inv-loop μ-loop
 mul-lasts c = search needs
@@ -48,7 +48,7 @@ loop-less c = search needs
 loop-again : tie.Need-loop-again Inv-loop μ-loop
 loop-again c = let d = c .before .before .before .before .before .before .before .before in
     let h = c .before .before .loop-test .taken in
-    filling-turn _ _ _ _ _ _ (d .pre .1) h (last-found (d .pre .0) _ _ h (c .last-before .ensures)) (c .before .before .before .loop .inv)
+    filling-turn _ _ _ _ _ _ (d .pre .1 .1) h (last-found (d .pre .0) (d .pre .1 .0) _ _ h (c .last-before .ensures)) (c .before .before .before .loop .inv)
 
 same-length : tie.Need-same-length Inv-loop μ-loop
 same-length c = search needs

@@ -1,50 +1,57 @@
 -- `tree::lasts::last_before` meets its contract. The loop's invariant is `Bracket`; the measure is the bracket's width.
 -- Assumes nothing.
-use Prim.Native.Nat.{_-_}
+use Prim.Native.Nat.{_+_, _/_}
+use denote.Ref.{now}
+use lib.ListN.{getD}
+use lib.Dec.{ltb}
 use native.Mathlib.Omega.{arith}
-use Rattle.tree.proofs.Searching.{Bracket, bracket-start, bracket-up, bracket-down, bracket-found}
+use Rattle.tree.proofs.Searching.{Bracket, bracket-start, bracket-turn, bracket-found, taken-most}
 use borrow.Author.Needs.{needs}
 use Rattle.tree.proofs.lasts.last_before.Statement.{statement}
 use Rattle.tree.proofs.lasts.last_before.Tie as tie
 
 abbrev Inv-loop : tie.InvT-loop
-Inv-loop offsets end from to low₀ high₀ low high = Bracket offsets end from to low high
+Inv-loop offsets end low₀ width₀ low width = Bracket offsets end 2048 low width
 
 abbrev μ-loop : tie.MeasureT-loop
-μ-loop offsets end from to low₀ high₀ low high = high - low
+μ-loop offsets end low₀ width₀ low width = width
 
 loop-holds : tie.Need-loop-holds Inv-loop μ-loop
-loop-holds c = bracket-start _ _ _ _ (c .pre .0)
+loop-holds c = bracket-start _ _ _ (omega arith)
 
-sub-loop : tie.Need-sub-loop Inv-loop μ-loop
-sub-loop c = search needs
+add-low : tie.Need-add-low Inv-loop μ-loop
+add-low c = search needs
 
-sub-middle : tie.Need-sub-middle Inv-loop μ-loop
-sub-middle c = search needs
+mul-low : tie.Need-mul-low Inv-loop μ-loop
+mul-low c = search needs
 
-add-middle : tie.Need-add-middle Inv-loop μ-loop
-add-middle c = search needs
+shared-slice-read-low : tie.Need-shared-slice-read-low Inv-loop μ-loop
+shared-slice-read-low c = search needs
 
-mul-if1 : tie.Need-mul-if1 Inv-loop μ-loop
-mul-if1 c = search needs
+cast-low : tie.Need-cast-low Inv-loop μ-loop
+cast-low c = search needs
 
-shared-slice-read-if1 : tie.Need-shared-slice-read-if1 Inv-loop μ-loop
-shared-slice-read-if1 c = search needs
+mul-low-2 : tie.Need-mul-low-2 Inv-loop μ-loop
+mul-low-2 c = let s = c .before .before .loop in
+    let a = c .before .before .before .args in
+    omega (arith, taken-most (s .width / 2) (ltb (getD (now (a .offsets)) (s .low + s .width / 2) 0) (a .end)))
+
+add-low-2 : tie.Need-add-low-2 Inv-loop μ-loop
+add-low-2 c = let s = c .before .before .loop in
+    let a = c .before .before .before .args in
+    omega (arith, taken-most (s .width / 2) (ltb (getD (now (a .offsets)) (s .low + s .width / 2) 0) (a .end)))
+
+sub-width : tie.Need-sub-width Inv-loop μ-loop
+sub-width c = search needs
 
 loop-less : tie.Need-loop-less Inv-loop μ-loop
 loop-less c = search needs
 
 loop-again : tie.Need-loop-again Inv-loop μ-loop
-loop-again c = bracket-up _ _ _ _ _ _ _ (c .before .before .before .loop .inv) (omega arith) (omega arith) (c .if1 .taken)
-
-loop-less-2 : tie.Need-loop-less-2 Inv-loop μ-loop
-loop-less-2 c = search needs
-
-loop-again-2 : tie.Need-loop-again-2 Inv-loop μ-loop
-loop-again-2 c = bracket-down _ _ _ _ _ _ _ (c .before .before .before .loop .inv) (omega arith) (omega arith) (c .before .before .before .before .pre .1 .1) (c .if1 .left)
+loop-again c = bracket-turn _ _ _ _ _ _ (c .before .before .before .pre .1) (c .before .before .loop .inv) (omega arith) (omega arith)
 
 returns : tie.Need-returns Inv-loop μ-loop
-returns c = bracket-found _ _ _ _ _ _ (omega arith) (c .before .loop .inv)
+returns c = bracket-found _ _ _ _ _ (c .loop-test .left) (c .before .loop .inv)
 
 pub last-before-spec : {M : Type 1} → statement M
 last-before-spec =
@@ -53,13 +60,13 @@ last-before-spec =
     Inv-loop
     μ-loop
     loop-holds
-    sub-loop
-    sub-middle
-    add-middle
-    mul-if1
-    shared-slice-read-if1
+    add-low
+    mul-low
+    shared-slice-read-low
+    cast-low
+    mul-low-2
+    add-low-2
+    sub-width
     loop-less
     loop-again
-    loop-less-2
-    loop-again-2
     returns)
