@@ -1,7 +1,8 @@
 // The windows that overlap one window. They are counted first, so that nothing is written where they do not fit.
 use crate::answers::NeighboursAnswer;
 use crate::answers::refusal;
-use crate::windows::overlapping;
+use crate::windows::meets;
+use crate::windows::window_at;
 use plan::Validation;
 ghost use mathlib.Core.Path.{_≡_};
 ghost use Prim.Native.Nat.{_≤_, _<_};
@@ -19,10 +20,11 @@ fn count_neighbours(file: &[u8], windows: usize, at: usize) -> usize
     requires { ⌜ at < windows ⌝ }
     ensures { λ r. ⌜ r ≡ length (neighboursOf (now (file .entry)) at) ⌝ }
 {
+    let window = window_at(file, at);
     let mut found = 0;
     let mut position = 0;
     while position < windows {
-        if overlapping(file, at, position) {
+        if meets(file, at, window, position) {
             found += 1;
         }
         position += 1;
@@ -37,10 +39,11 @@ fn write_neighbours(file: &[u8], windows: usize, at: usize, out: &mut [u16])
     requires { ⌜ length (neighboursOf (now file) at) ≤ length (now out) ⌝ }
     ensures { λ _. ⌜ now (out .exit) ≡ overwritten (now (out .entry)) (neighboursOf (now (file .entry)) at) ⌝ }
 {
+    let window = window_at(file, at);
     let mut found = 0;
     let mut position = 0;
     while position < windows {
-        if overlapping(file, at, position) {
+        if meets(file, at, window, position) {
             out[found] = position as u16;
             found += 1;
         }

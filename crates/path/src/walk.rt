@@ -1,6 +1,7 @@
 // The walk up from the later window, from parent to parent, until a window that the earlier one overlaps, or one that does
 // not stand behind it.
-use crate::windows::overlapping;
+use crate::windows::meets;
+use crate::windows::window_at;
 ghost use mathlib.Core.Path.{_≡_};
 ghost use Prim.Native.Nat.{_<_};
 ghost use lib.ListN.{length};
@@ -24,7 +25,7 @@ fn is_past(file: &[u8], earlier: usize, at: usize) -> bool
     if at <= earlier {
         return false;
     }
-    !overlapping(file, earlier, at)
+    !meets(file, earlier, window_at(file, earlier), at)
 }
 
 // The steps up from the later window to one that is not past the earlier one's last; `later + 1` where the root is.

@@ -7,7 +7,7 @@ ghost use Rattle.plan.specs.File.{windowCount, windowAt};
 ghost use Rattle.plan.specs.Overlap.{sharedMinutes, minimumHandover, overlaps};
 ghost use Rattle.plan.specs.Validation.{AcceptedPlan};
 
-fn window_at(file: &[u8], position: usize) -> Window
+pub(crate) fn window_at(file: &[u8], position: usize) -> Window
     requires { ⌜ AcceptedPlan (now file) ⌝ }
     requires { ⌜ position < windowCount (now file) ⌝ }
     ensures { λ r. ⌜ r ≡ windowAt (now (file .entry)) position ⌝ }
@@ -41,15 +41,15 @@ fn share(first: Window, second: Window) -> bool
     start < stop
 }
 
-// No window overlaps itself.
-pub(crate) fn overlapping(file: &[u8], first: usize, second: usize) -> bool
+// Whether a window that was read overlaps the one at a second position. No window overlaps itself.
+pub(crate) fn meets(file: &[u8], first: usize, window: Window, second: usize) -> bool
     requires { ⌜ AcceptedPlan (now file) ⌝ }
-    requires { ⌜ first < windowCount (now file) ⌝ }
+    requires { ⌜ window ≡ windowAt (now file) first ⌝ }
     requires { ⌜ second < windowCount (now file) ⌝ }
     ensures { λ r. ⌜ r ≡ overlaps (now (file .entry)) first second ⌝ }
 {
     if first == second {
         return false;
     }
-    share(window_at(file, first), window_at(file, second))
+    share(window, window_at(file, second))
 }

@@ -12,16 +12,20 @@ use Rattle.path.proofs.adjacency.count_neighbours.Statement.{statement}
 use Rattle.path.proofs.adjacency.count_neighbours.Tie as tie
 
 abbrev Inv-loop : tie.InvT-loop
-Inv-loop file windows at found₀ position₀ found position = Counted (overlaps file at) windows found position
+Inv-loop file windows at window found₀ position₀ found position = Counted (overlaps file at) windows found position
 
 abbrev μ-loop : tie.MeasureT-loop
-μ-loop file windows at found₀ position₀ found position = windows - position
+μ-loop file windows at window found₀ position₀ found position = windows - position
+
+window-at-requires : tie.Need-window-at-requires Inv-loop μ-loop
+window-at-requires c κs = search needs
 
 loop-holds : tie.Need-loop-holds Inv-loop μ-loop
 loop-holds c = counted-start _ _
 
-overlapping-requires : tie.Need-overlapping-requires Inv-loop μ-loop
-overlapping-requires c κs = let d = c .before .before .before in (d .pre .0, (omega arith, omega arith))
+meets-requires : tie.Need-meets-requires Inv-loop μ-loop
+meets-requires c κs = let d = c .before .before .before .before in
+    (d .pre .0, (c .before .before .window-at .ensures, omega arith))
 
 add-found : tie.Need-add-found Inv-loop μ-loop
 add-found c = let s = c .before .before .before .loop in omega (arith, counted-few _ _ (s .found) (s .position) (s .inv))
@@ -35,11 +39,11 @@ loop-less c = search needs
 loop-again : tie.Need-loop-again Inv-loop μ-loop
 loop-again c = let h = c .before .before .loop-test .taken in
     let s = c .before .before .before .loop .inv in
-    let read = sym (c .before .overlapping .ensures) in
+    let read = sym (c .before .meets .ensures) in
     ⊎-elim (λ w. rw (w .1) (counted-more _ _ _ _ h (read ∙ w .0 .taken) s)) (λ w. rw (w .1) (counted-kept _ _ _ _ h (read ∙ w .0 .left) s)) (c .if1 .came)
 
 returns : tie.Need-returns Inv-loop μ-loop
-returns c = let d = c .before .before .before in
+returns c = let d = c .before .before .before .before in
     rw (← listing-neighbours _ _ _ (d .pre .1 .0)) (counted-end _ _ _ _ (c .loop-test .left) (c .before .loop .inv))
 
 pub count-neighbours-spec : {M : Type 1} → statement M
@@ -48,8 +52,9 @@ count-neighbours-spec =
     (tie.spec
     Inv-loop
     μ-loop
+    window-at-requires
     loop-holds
-    overlapping-requires
+    meets-requires
     add-found
     add-position
     loop-less

@@ -14,29 +14,33 @@ use Rattle.path.proofs.adjacency.write_neighbours.Statement.{statement}
 use Rattle.path.proofs.adjacency.write_neighbours.Tie as tie
 
 abbrev Inv-loop : tie.InvT-loop
-Inv-loop file windows at out₀ found₀ position₀ out found position = Listed (overlaps file at) windows out₀ out found position
+Inv-loop file windows at out₀ window found₀ position₀ out found position = Listed (overlaps file at) windows out₀ out found position
 
 abbrev μ-loop : tie.MeasureT-loop
-μ-loop file windows at out₀ found₀ position₀ out found position = windows - position
+μ-loop file windows at out₀ window found₀ position₀ out found position = windows - position
+
+window-at-requires : tie.Need-window-at-requires Inv-loop μ-loop
+window-at-requires c κs = search needs
 
 loop-holds : tie.Need-loop-holds Inv-loop μ-loop
 loop-holds c = listed-start _ _ _
 
-overlapping-requires : tie.Need-overlapping-requires Inv-loop μ-loop
-overlapping-requires c κs = let d = c .before .before .before .before in (d .pre .0, (omega arith, omega arith))
+meets-requires : tie.Need-meets-requires Inv-loop μ-loop
+meets-requires c κs = let d = c .before .before .before .before .before in
+    (d .pre .0, (c .before .before .window-at .ensures, omega arith))
 
 cast-out : tie.Need-cast-out Inv-loop μ-loop
-cast-out c = let d = c .before .before .before .before .before .before in
+cast-out c = let d = c .before .before .before .before .before .before .before in
     omega (arith, plan-few (now (d .args .file)) (d .args .windows) (d .pre .0) (d .pre .1 .0))
 
 mul-out : tie.Need-mul-out Inv-loop μ-loop
-mul-out c = let d = c .before .before .before .before .before .before in
+mul-out c = let d = c .before .before .before .before .before .before .before in
     let s = c .before .before .before .loop in
     omega (arith, plan-few (now (d .args .file)) (d .args .windows) (d .pre .0) (d .pre .1 .0), counted-few _ _ (s .found) (s .position) (s .inv .so-far))
 
 slice-write-out : tie.Need-slice-write-out Inv-loop μ-loop
-slice-write-out c = let d = c .before .before .before .before .before .before in
-    listed-room _ _ _ _ (c .before .before .loop-test .taken) _ _ (sym (c .before .overlapping .ensures) ∙ c .if1 .taken) (listing-room _ _ _ (d .pre .1 .0) _ (d .pre .1 .1 .1)) (c .before .before .before .loop .inv)
+slice-write-out c = let d = c .before .before .before .before .before .before .before in
+    listed-room _ _ _ _ (c .before .before .loop-test .taken) _ _ (sym (c .before .meets .ensures) ∙ c .if1 .taken) (listing-room _ _ _ (d .pre .1 .0) _ (d .pre .1 .1 .1)) (c .before .before .before .loop .inv)
 
 add-found : tie.Need-add-found Inv-loop μ-loop
 add-found c = let s = c .before .before .before .loop in omega (arith, counted-few _ _ (s .found) (s .position) (s .inv .so-far))
@@ -48,10 +52,10 @@ loop-less : tie.Need-loop-less Inv-loop μ-loop
 loop-less c = search needs
 
 loop-again : tie.Need-loop-again Inv-loop μ-loop
-loop-again c = let d = c .before .before .before .before .before .before in
+loop-again c = let d = c .before .before .before .before .before .before .before in
     let h = c .before .before .loop-test .taken in
     let s = c .before .before .before .loop .inv in
-    let read = sym (c .before .overlapping .ensures) in
+    let read = sym (c .before .meets .ensures) in
     let room = listing-room _ _ _ (d .pre .1 .0) _ (d .pre .1 .1 .1) in
     ⊎-elim (λ w. rw (w .1, w .2) (listed-more _ _ _ _ h _ _ (read ∙ w .0 .taken) room s)) (λ w. rw (w .1, w .2) (listed-kept _ _ _ _ h _ _ (read ∙ w .0 .left) s)) (c .if1 .came)
 
@@ -59,7 +63,7 @@ same-length : tie.Need-same-length Inv-loop μ-loop
 same-length c = c .before .loop .inv .list .long
 
 returns : tie.Need-returns Inv-loop μ-loop
-returns c = let d = c .before .before .before .before in
+returns c = let d = c .before .before .before .before .before in
     rw (← listing-neighbours _ _ _ (d .pre .1 .0)) (listed-end _ _ _ _ _ _ (c .loop-test .left) (c .before .loop .inv))
 
 pub write-neighbours-spec : {M : Type 1} → statement M
@@ -68,8 +72,9 @@ write-neighbours-spec =
     (tie.spec
     Inv-loop
     μ-loop
+    window-at-requires
     loop-holds
-    overlapping-requires
+    meets-requires
     cast-out
     mul-out
     slice-write-out
