@@ -40,7 +40,7 @@ fn tag_of(plan: u16, component: u16, depth: u16, rank: u16, last: u16) -> [u8; 1
 
 fn count(name: &[u8], first: &[u8], second: &[u8]) {
     print_name(name);
-    report::print_count(STDOUT_FILENO, first, second);
+    replies::print_count(STDOUT_FILENO, first, second);
 }
 
 fn count_at(name: &[u8], tags: &[u8], first: usize, second: usize) {

@@ -7,22 +7,22 @@ use path::NeighboursAnswer;
 
 fn chain(name: &[u8], file: &[u8], first: usize, second: usize) {
     print_name(name);
-    report::print_chain(STDOUT_FILENO, file, first, second);
+    replies::print_chain(STDOUT_FILENO, file, first, second);
 }
 
 fn neighbours(name: &[u8], file: &[u8], at: usize) {
     print_name(name);
-    report::print_neighbours(STDOUT_FILENO, file, at);
+    replies::print_neighbours(STDOUT_FILENO, file, at);
 }
 
 fn reach(name: &[u8], file: &[u8], at: usize) {
     print_name(name);
-    report::print_reach(STDOUT_FILENO, file, at);
+    replies::print_reach(STDOUT_FILENO, file, at);
 }
 
 fn same(name: &[u8], first: &[u8], second: &[u8]) {
     print_name(name);
-    report::print_same(STDOUT_FILENO, first, second);
+    replies::print_same(STDOUT_FILENO, first, second);
 }
 
 fn print_chain_answer(answer: ChainAnswer) {

@@ -30,7 +30,7 @@ fn main() {
     // One byte more than any plan, so that a file that is too long is seen to be.
     let mut file = [0; 16389];
     let read = io::read_full(STDIN_FILENO, &mut file);
-    report::print_chain(
+    replies::print_chain(
         STDOUT_FILENO,
         &file[..read],
         first as usize,

@@ -22,5 +22,5 @@ fn main() {
     // One byte more than any plan, so that a file that is too long is seen to be.
     let mut file = [0; 16389];
     let read = io::read_full(STDIN_FILENO, &mut file);
-    report::print_neighbours(STDOUT_FILENO, &file[..read], at as usize);
+    replies::print_neighbours(STDOUT_FILENO, &file[..read], at as usize);
 }

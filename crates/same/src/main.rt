@@ -28,5 +28,5 @@ fn main() {
     let mut second = [0; 16389];
     let first_read = io::read_full(first_file, &mut first);
     let second_read = io::read_full(second_file, &mut second);
-    report::print_same(STDOUT_FILENO, &first[..first_read], &second[..second_read]);
+    replies::print_same(STDOUT_FILENO, &first[..first_read], &second[..second_read]);
 }

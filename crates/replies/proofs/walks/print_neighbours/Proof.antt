@@ -1,7 +1,7 @@
--- `report::walks::print_neighbours` meets its contract: it hands back the answer that it printed. Assumes nothing.
+-- `replies::walks::print_neighbours` meets its contract: it hands back the answer that it printed. Assumes nothing.
 use borrow.Author.Needs.{needs}
-use Rattle.report.proofs.walks.print_neighbours.Statement.{statement}
-use Rattle.report.proofs.walks.print_neighbours.Tie as tie
+use Rattle.replies.proofs.walks.print_neighbours.Statement.{statement}
+use Rattle.replies.proofs.walks.print_neighbours.Tie as tie
 
 slice-aggregate-neighbours : tie.Need-slice-aggregate-neighbours
 slice-aggregate-neighbours c = search needs

@@ -1,7 +1,7 @@
--- `report::counts::print_reach` meets its contract: it hands back the answer that it printed. Assumes nothing.
+-- `replies::counts::print_reach` meets its contract: it hands back the answer that it printed. Assumes nothing.
 use borrow.Author.Needs.{needs}
-use Rattle.report.proofs.counts.print_reach.Statement.{statement}
-use Rattle.report.proofs.counts.print_reach.Tie as tie
+use Rattle.replies.proofs.counts.print_reach.Statement.{statement}
+use Rattle.replies.proofs.counts.print_reach.Tie as tie
 
 reach-requires : tie.Need-reach-requires
 reach-requires c κs = search needs

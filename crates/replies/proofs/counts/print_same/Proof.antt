@@ -1,7 +1,7 @@
--- `report::counts::print_same` meets its contract: it hands back the answer that it printed. Assumes nothing.
+-- `replies::counts::print_same` meets its contract: it hands back the answer that it printed. Assumes nothing.
 use borrow.Author.Needs.{needs}
-use Rattle.report.proofs.counts.print_same.Statement.{statement}
-use Rattle.report.proofs.counts.print_same.Tie as tie
+use Rattle.replies.proofs.counts.print_same.Statement.{statement}
+use Rattle.replies.proofs.counts.print_same.Tie as tie
 
 same-requires : tie.Need-same-requires
 same-requires c κs = search needs

@@ -1,7 +1,7 @@
--- `report::counts::print_count` meets its contract: it hands back the answer that it printed. Assumes nothing.
+-- `replies::counts::print_count` meets its contract: it hands back the answer that it printed. Assumes nothing.
 use borrow.Author.Needs.{needs}
-use Rattle.report.proofs.counts.print_count.Statement.{statement}
-use Rattle.report.proofs.counts.print_count.Tie as tie
+use Rattle.replies.proofs.counts.print_count.Statement.{statement}
+use Rattle.replies.proofs.counts.print_count.Tie as tie
 
 pair-requires : tie.Need-pair-requires
 pair-requires c κs = search needs

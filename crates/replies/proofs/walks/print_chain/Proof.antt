@@ -1,7 +1,7 @@
--- `report::walks::print_chain` meets its contract: it hands back the answer that it printed. Assumes nothing.
+-- `replies::walks::print_chain` meets its contract: it hands back the answer that it printed. Assumes nothing.
 use borrow.Author.Needs.{needs}
-use Rattle.report.proofs.walks.print_chain.Statement.{statement}
-use Rattle.report.proofs.walks.print_chain.Tie as tie
+use Rattle.replies.proofs.walks.print_chain.Statement.{statement}
+use Rattle.replies.proofs.walks.print_chain.Tie as tie
 
 slice-aggregate-chain : tie.Need-slice-aggregate-chain
 slice-aggregate-chain c = search needs

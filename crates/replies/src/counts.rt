@@ -1,6 +1,6 @@
 // Answers of one number or one word.
-use crate::questions::print_refusal;
 use path::SameAnswer;
+use report::print_refusal;
 use tag::PairAnswer;
 use tree::ReachAnswer;
 ghost use mathlib.Core.Path.{_≡_};

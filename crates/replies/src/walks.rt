@@ -1,8 +1,8 @@
 // Lists of positions from a plan: a chain, and the windows that overlap one.
-use crate::numbers::print_numbers;
-use crate::questions::print_refusal;
 use path::ChainAnswer;
 use path::NeighboursAnswer;
+use report::print_numbers;
+use report::print_refusal;
 ghost use mathlib.Core.Path.{_≡_};
 ghost use Rattle.path.specs.Chain.{chainAnswerOf};
 ghost use Rattle.path.specs.Neighbours.{neighboursAnswerOf};
