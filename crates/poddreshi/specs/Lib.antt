@@ -1,5 +1,3 @@
--- The C interface: what its numbers mean. What is answered is defined in the crates below. In reading order:
---   Packing  an answer as one number of 64 bits
---   Lent     what is left in what is lent
-pub mod Packing
+-- The C interface: what is left in what is lent to it. What is answered is defined in the crates below, and how it is packed
+-- into a number in `packing`.
 pub mod Lent

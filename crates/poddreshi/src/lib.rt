@@ -1,6 +1,5 @@
 // The C interface. Each call takes numbers and slices alone, is total, and answers with one number of 64 bits, which
 // include/poddreshi.h unpacks.
-mod packing;
 mod plans;
 mod tags;
 

@@ -1,10 +1,10 @@
 // The calls on plan files.
-use crate::packing::pack_build;
-use crate::packing::pack_chain;
-use crate::packing::pack_neighbours;
-use crate::packing::pack_reach;
-use crate::packing::pack_same;
-use crate::packing::pack_validation;
+use packing::pack_build;
+use packing::pack_chain;
+use packing::pack_neighbours;
+use packing::pack_reach;
+use packing::pack_same;
+use packing::pack_validation;
 ghost use mathlib.Core.Path.{_≡_};
 ghost use lib.ListN.{length};
 ghost use Rattle.plan.specs.Validation.{validateOf};
@@ -14,7 +14,7 @@ ghost use Rattle.tree.specs.ReachCall.{reachOf};
 ghost use Rattle.path.specs.Chain.{chainBetween, chainAnswerOf, afterChain};
 ghost use Rattle.path.specs.Neighbours.{neighboursOf, neighboursAnswerOf, afterNeighbours};
 ghost use Rattle.path.specs.Sameness.{sameAnswerOf};
-ghost use Rattle.poddreshi.specs.Packing.{packedValidation, packedBuild, packedReach, packedChain, packedNeighbours, packedSame};
+ghost use Rattle.packing.specs.Packing.{packedValidation, packedBuild, packedReach, packedChain, packedNeighbours, packedSame};
 ghost use Rattle.poddreshi.specs.Lent.{builtIn};
 
 // Whether a file is that of an accepted plan.

@@ -1,14 +1,14 @@
 // The calls on tags: two tags, a tag file, one tag to be written.
-use crate::packing::pack_lookup;
-use crate::packing::pack_pair;
-use crate::packing::pack_write;
+use packing::pack_lookup;
+use packing::pack_pair;
+use packing::pack_write;
 use tag::LookupAnswer;
 use tag::Tag;
 ghost use mathlib.Core.Path.{_≡_};
 ghost use Rattle.tag.specs.Pairs.{pairOf};
 ghost use Rattle.tag.specs.TagFile.{lookupOf};
 ghost use Rattle.tag.specs.Writing.{writeOf, afterWrite};
-ghost use Rattle.poddreshi.specs.Packing.{packedPair, packedLookup, packedWrite};
+ghost use Rattle.packing.specs.Packing.{packedPair, packedLookup, packedWrite};
 ghost use Rattle.poddreshi.specs.Lent.{offsetAfter};
 
 // The answer from the bytes of two tags.

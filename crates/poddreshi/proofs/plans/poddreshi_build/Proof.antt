@@ -1,7 +1,7 @@
 -- `poddreshi::plans::poddreshi_build` meets its contract: the answer of the call below it, packed, and each table as that call leaves it.
 -- Assumes nothing.
 use mathlib.Core.Path.{ap, _∙_}
-use Rattle.poddreshi.specs.Packing.{packedBuild}
+use Rattle.packing.specs.Packing.{packedBuild}
 use borrow.Author.Needs.{needs}
 use Rattle.poddreshi.proofs.plans.poddreshi_build.Statement.{statement}
 use Rattle.poddreshi.proofs.plans.poddreshi_build.Tie as tie

@@ -1,7 +1,7 @@
 -- `poddreshi::plans::poddreshi_neighbours` meets its contract: the answer of the call below it, packed, and the table as that call leaves it.
 -- Assumes nothing.
 use mathlib.Core.Path.{ap, _∙_}
-use Rattle.poddreshi.specs.Packing.{packedNeighbours}
+use Rattle.packing.specs.Packing.{packedNeighbours}
 use borrow.Author.Needs.{needs}
 use Rattle.poddreshi.proofs.plans.poddreshi_neighbours.Statement.{statement}
 use Rattle.poddreshi.proofs.plans.poddreshi_neighbours.Tie as tie

@@ -1,7 +1,7 @@
 -- `poddreshi::plans::poddreshi_reach` meets its contract: the answer of the call below it, packed.
 -- Assumes nothing.
 use mathlib.Core.Path.{ap, _∙_}
-use Rattle.poddreshi.specs.Packing.{packedReach}
+use Rattle.packing.specs.Packing.{packedReach}
 use borrow.Author.Needs.{needs}
 use Rattle.poddreshi.proofs.plans.poddreshi_reach.Statement.{statement}
 use Rattle.poddreshi.proofs.plans.poddreshi_reach.Tie as tie

@@ -1,7 +1,7 @@
 -- `poddreshi::plans::poddreshi_same` meets its contract: the answer of the call below it, packed.
 -- Assumes nothing.
 use mathlib.Core.Path.{ap, _∙_}
-use Rattle.poddreshi.specs.Packing.{packedSame}
+use Rattle.packing.specs.Packing.{packedSame}
 use borrow.Author.Needs.{needs}
 use Rattle.poddreshi.proofs.plans.poddreshi_same.Statement.{statement}
 use Rattle.poddreshi.proofs.plans.poddreshi_same.Tie as tie

@@ -1,7 +1,7 @@
 -- `poddreshi::plans::poddreshi_validate` meets its contract: the answer of the call below it, packed.
 -- Assumes nothing.
 use mathlib.Core.Path.{ap, _∙_}
-use Rattle.poddreshi.specs.Packing.{packedValidation}
+use Rattle.packing.specs.Packing.{packedValidation}
 use borrow.Author.Needs.{needs}
 use Rattle.poddreshi.proofs.plans.poddreshi_validate.Statement.{statement}
 use Rattle.poddreshi.proofs.plans.poddreshi_validate.Tie as tie

@@ -6,7 +6,7 @@ use mathlib.Core.Logic.{⊎-elim}
 use native.Mathlib.Omega.{arith}
 use Rattle.tag.specs.Fields.{tagLength, fieldCount}
 use Rattle.tag.proofs.TagFile.{found-within}
-use Rattle.poddreshi.specs.Packing.{packedLookup}
+use Rattle.packing.specs.Packing.{packedLookup}
 use Rattle.poddreshi.specs.Lent.{offsetAfter}
 use borrow.Author.Needs.{needs}
 use Rattle.poddreshi.proofs.tags.poddreshi_lookup.Statement.{statement}

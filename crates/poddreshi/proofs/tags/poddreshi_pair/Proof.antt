@@ -1,7 +1,7 @@
 -- `poddreshi::tags::poddreshi_pair` meets its contract: the answer of the call below it, packed.
 -- Assumes nothing.
 use mathlib.Core.Path.{ap, _∙_}
-use Rattle.poddreshi.specs.Packing.{packedPair}
+use Rattle.packing.specs.Packing.{packedPair}
 use borrow.Author.Needs.{needs}
 use Rattle.poddreshi.proofs.tags.poddreshi_pair.Statement.{statement}
 use Rattle.poddreshi.proofs.tags.poddreshi_pair.Tie as tie

@@ -1,7 +1,7 @@
 -- `poddreshi::tags::poddreshi_write` meets its contract: the answer of the call below it, packed, and the table as that call leaves it.
 -- Assumes nothing.
 use mathlib.Core.Path.{ap, _∙_}
-use Rattle.poddreshi.specs.Packing.{packedWrite}
+use Rattle.packing.specs.Packing.{packedWrite}
 use borrow.Author.Needs.{needs}
 use Rattle.poddreshi.proofs.tags.poddreshi_write.Statement.{statement}
 use Rattle.poddreshi.proofs.tags.poddreshi_write.Tie as tie

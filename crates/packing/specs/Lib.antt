@@ -1,0 +1,3 @@
+-- How answers cross into C.
+--   Packing  an answer as one number of 64 bits
+pub mod Packing
