@@ -10,7 +10,7 @@ use lib.Dec.{leb}
 use borrow.Author.Tests.{leb-true}
 use Rattle.sequences.specs.Table.{table, overwritten, Holds}
 use Rattle.sequences.proofs.Tests.{and-left, and-right}
-use Rattle.sequences.proofs.Table.{overwritten-holds}
+use Rattle.sequences.proofs.Table.{length-table, length-overwritten, overwritten-holds}
 use Rattle.plan.specs.File.{windowCount}
 use Rattle.plan.specs.Validation.{AcceptedPlan}
 use Rattle.tag.specs.Fields.{fieldCount, tagLength}
@@ -67,3 +67,7 @@ numbered-filled file windows components₀ depths₀ ranks₀ lastRanks₀ compo
       ranks-held = overwritten-holds (rankOf file) windows ranks₀ ranks (rooms .ranks-room) r;
       last-ranks-held = overwritten-holds (lastRankOf file) windows lastRanks₀ lastRanks (rooms .last-ranks-room) l;
     }
+
+-- A table that a pass has overwritten is as long as before.
+pub filled-long : (f : ℕ → ℕ) (n : ℕ) (before now : List ℕ) → n ≤ length before → now ≡ overwritten before (table f n) → length now ≡ length before
+filled-long f n before now room e = rw e (length-overwritten before (table f n) (omega (arith, length-table f n)))

@@ -1,5 +1,4 @@
--- What the offsets and ends of an accepted plan, as tables, say of overlap; and what the two searches in them find: parents and
--- lasts.
+-- What the offsets and ends of an accepted plan say of overlap, and what the two searches in them find: parents and lasts.
 -- Vocabulary: earlier-overlaps, offsets-do-not-fall, parent-found, Fingers, last-found.
 -- Assumes nothing.
 use Prim.Native.Nat.{ℕ, _+_, _≤_, _<_}
@@ -20,10 +19,11 @@ use Rattle.interval_graph.specs.Tree.{last, parent}
 use Rattle.interval_graph.proofs.Last.{last-cases, last-ge, overlap-last}
 use Rattle.plan.specs.File.{windowCount, windowAt, endOf}
 use Rattle.plan.specs.Overlap.{overlaps}
+use Rattle.plan.specs.Validation.{AcceptedPlan}
 use Rattle.plan.proofs.Accepted.{accepted-sound, offsets-sorted}
 use Rattle.plan.proofs.Overlap.{overlaps-end, interval-order}
 use Rattle.tree.specs.Tables.{offsetAt, endAt, parentOf, lastOf}
-use Rattle.tree.specs.Passes.{Prepared, FirstPast, Padded, Sorted, LastBefore}
+use Rattle.tree.specs.Passes.{Prepared, FirstPast, Sorted, LastBefore}
 
 -- No window before `finger` overlaps one from v on.
 abbrev Behind : List ℕ → ℕ → ℕ → ℕ → Type 0
@@ -36,30 +36,26 @@ pub record Fingers (file : List ℕ) (windows : ℕ) (parents₀ parents : List 
   pub behind : Behind file windows finger position
   pub filling : Filling (parentOf file) windows parents₀ parents position
 
-module _ {file : List ℕ} {windows : ℕ} {offsets ends : List ℕ} (p : Prepared file windows offsets ends) where
+module _ (file : List ℕ) (windows : ℕ) (ok : AcceptedPlan file) (counted : windows ≡ windowCount file) where
   -- For u before v: they overlap exactly if the offset of v lies before the end of u.
-  earlier-overlaps : (u v : ℕ) → u < v → v < windows → overlaps file u v ≡ ltb (getD offsets v 0) (getD ends u 0)
+  earlier-overlaps : (u v : ℕ) → u < v → v < windows → overlaps file u v ≡ ltb (offsetAt file v) (endAt file u)
   unfolding offsetAt endAt
-  earlier-overlaps u v h within =
-      rw (p .offsets-held .at v within, p .ends-held .at u (omega arith))
-      (overlaps-end file (p .accepted) u v h (omega (arith, p .counted)))
+  earlier-overlaps u v h within = overlaps-end file ok u v h (omega (arith, counted))
 
-  ends-past : (u v : ℕ) → u < v → v < windows → getD offsets v 0 < getD ends u 0 → overlaps file u v ≡ true
+  ends-past : (u v : ℕ) → u < v → v < windows → offsetAt file v < endAt file u → overlaps file u v ≡ true
   ends-past u v h within g = earlier-overlaps u v h within ∙ lt-ltb _ _ g
 
-  ends-before : (u v : ℕ) → u < v → v < windows → getD ends u 0 ≤ getD offsets v 0 → overlaps file u v ≡ false
+  ends-before : (u v : ℕ) → u < v → v < windows → endAt file u ≤ offsetAt file v → overlaps file u v ≡ false
   ends-before u v h within g = earlier-overlaps u v h within ∙ le-ltb _ _ g
 
-  pub offsets-do-not-fall : Sorted offsets windows
+  offsets-do-not-fall : (i j : ℕ) → i ≤ j → j < windows → offsetAt file i ≤ offsetAt file j
   unfolding offsetAt
-  offsets-do-not-fall i j le within =
-      rw (p .offsets-held .at j within, p .offsets-held .at i (omega arith))
-      (offsets-sorted file (accepted-sound file (p .accepted)) i j le (omega (arith, p .counted)))
+  offsets-do-not-fall i j le within = offsets-sorted file (accepted-sound file ok) i j le (omega (arith, counted))
 
   pub windows-few : windows ≤ 2048
-  windows-few = omega (arith, p .counted, accepted-sound file (p .accepted) .few)
+  windows-few = omega (arith, counted, accepted-sound file ok .few)
 
-  module _ (finger v r : ℕ) (within : v < windows) (behind : Behind file windows finger v) (found : FirstPast ends (getD offsets v 0) finger v r) where
+  module _ (finger v r : ℕ) (within : v < windows) (behind : Behind file windows finger v) (found : FirstPast (endAt file) (offsetAt file v) finger v r) where
     -- What the search passes over overlaps nothing from v on.
     behind-turn : Behind file windows r v
     behind-turn u w h uw vw wn =
@@ -75,71 +71,82 @@ module _ {file : List ℕ} {windows : ℕ} {offsets ends : List ℕ} (p : Prepar
         (least-unique (λ u. overlaps file u v) v r (found .high) (λ h. ends-past r v h within (found .past h))
         (λ j h. behind-turn j v h (omega (arith, found .high)) (omega arith) within))
 
-  module _ (parents₀ : List ℕ) where
-    pub fingers-turn : (parents : List ℕ) (finger v r : ℕ) → windows ≤ length parents₀ → v < windows → FirstPast ends (getD offsets v 0) finger v r → Fingers file windows parents₀ parents finger v → Fingers file windows parents₀ (set parents v r) r (v + 1)
-    fingers-turn parents finger v r room within found s =
-        record {
-          left = omega (arith, found .high);
-          behind = λ u w h uw vw wn. behind-turn finger v r within (s .behind) found u w h uw (omega arith) wn;
-          filling = filling-turn (parentOf file) windows parents₀ parents v r room within (parent-found finger v r within (s .behind) found) (s .filling);
-        }
+  pub fingers-turn : (parents₀ parents : List ℕ) (finger v r : ℕ) → windows ≤ length parents₀ → v < windows → FirstPast (endAt file) (offsetAt file v) finger v r → Fingers file windows parents₀ parents finger v → Fingers file windows parents₀ (set parents v r) r (v + 1)
+  fingers-turn parents₀ parents finger v r room within found s =
+      record {
+        left = omega (arith, found .high);
+        behind = λ u w h uw vw wn. behind-turn finger v r within (s .behind) found u w h uw (omega arith) wn;
+        filling = filling-turn (parentOf file) windows parents₀ parents v r room within (parent-found finger v r within (s .behind) found) (s .filling);
+      }
 
-  ends-early : (u : ℕ) → u < windows → getD ends u 0 ≤ 4294967295
+  ends-early : (u : ℕ) → u < windows → endAt file u ≤ 4294967295
   unfolding endAt
-  ends-early u within = omega (arith, p .ends-held .at u within, accepted-sound file (p .accepted) .early u (omega (arith, p .counted)))
+  ends-early u within = omega (arith, accepted-sound file ok .early u (omega (arith, counted)))
 
   -- A window begins before it ends.
-  own-offset : (u : ℕ) → u < windows → getD offsets u 0 < getD ends u 0
+  own-offset : (u : ℕ) → u < windows → offsetAt file u < endAt file u
   unfolding offsetAt endAt endOf
-  own-offset u within =
-      omega (
-        arith,
-        p .offsets-held .at u within,
-        p .ends-held .at u within,
-        accepted-sound file (p .accepted) .long u (omega (arith, p .counted)),
-      )
+  own-offset u within = omega (arith, accepted-sound file ok .long u (omega (arith, counted)))
 
-  module _ (q : Padded offsets windows) where
-    pub padded-do-not-fall : Sorted offsets 2048
-    padded-do-not-fall i j le within =
-        ⊎-elim (λ h. offsets-do-not-fall i j le h)
-        (λ h. rw (q .rest j h within) (⊎-elim (λ g. omega (arith, own-offset i g, ends-early i g)) (λ g. omega (arith, q .rest i g (omega arith))) (lt-or-ge i windows)))
-        (lt-or-ge j windows)
+module _ {file : List ℕ} {windows : ℕ} {offsets : List ℕ} (p : Prepared file windows offsets) where
+  held : (k : ℕ) → k < windows → getD offsets k 0 ≡ offsetAt file k
+  held = p .offsets-held .at
 
-    module _ (u r : ℕ) (within : u < windows) (found : LastBefore offsets (getD ends u 0) 2048 r) where
-      -- The search finds no window before its own, and none of what the table is filled up with.
-      found-late : u ≤ r
-      found-late =
-          ⊎-elim (λ h. absurd (omega (arith, own-offset u within, found .past u h (omega (arith, windows-few)))))
-          (λ h. h)
-          (lt-or-ge r u)
+  pub prepared-few : windows ≤ 2048
+  prepared-few = windows-few file windows (p .accepted) (p .counted)
 
-      pub found-window : r < windows
-      found-window =
-          ⊎-elim (λ h. h)
-          (λ h. absurd (omega (arith, found .before (omega arith), q .rest r h (found .high), ends-early u within)))
-          (lt-or-ge r windows)
+  pub prepared-do-not-fall : Sorted offsets 2048
+  prepared-do-not-fall i j le within =
+      ⊎-elim
+      (λ h. omega (arith, held i (omega arith), held j h, offsets-do-not-fall file windows (p .accepted) (p .counted) i j le h))
+      (λ h. ⊎-elim
+      (λ g. omega (arith, held i g, p .rest j h within, own-offset file windows (p .accepted) (p .counted) i g, ends-early file windows (p .accepted) (p .counted) i g))
+      (λ g. omega (arith, p .rest i g (omega arith), p .rest j h within))
+      (lt-or-ge i windows))
+      (lt-or-ge j windows)
 
-      -- What it finds is the last.
-      pub last-found : r ≡ lastOf file u
-      unfolding lastOf
-      last-found = rw (← p .counted) (sym (le-antisymm upper lower))
-        where
-          order : IntervalOrder windows (overlaps file)
-          order = rw (p .counted) (interval-order file (p .accepted))
+  module _ (u r : ℕ) (within : u < windows) (found : LastBefore offsets (endAt file u) 2048 r) where
+    -- The search finds no window before its own, and none of what the table is filled up with.
+    found-late : u ≤ r
+    found-late =
+        ⊎-elim
+        (λ h. absurd (omega (arith, held u within, own-offset file windows (p .accepted) (p .counted) u within, found .past u h (omega (arith, prepared-few)))))
+        (λ h. h)
+        (lt-or-ge r u)
 
-          upper : last windows (overlaps file) u ≤ r
-          upper =
-              ⊎-elim
-              (λ c. ⊎-elim (λ h. absurd (true-false-absurd _ (c .2) (ends-before u (last windows (overlaps file) u) (c .0) (c .1) (found .past _ h (omega (arith, c .1, windows-few)))))) (λ h. h) (lt-or-ge r (last windows (overlaps file) u)))
-              (λ e. omega (arith, e, found-late))
-              (last-cases windows (overlaps file) u)
+    found-window : r < windows
+    found-window =
+        ⊎-elim (λ h. h)
+        (λ h. absurd (omega (arith, found .before (omega arith), p .rest r h (found .high), ends-early file windows (p .accepted) (p .counted) u within)))
+        (lt-or-ge r windows)
 
-          lower : r ≤ last windows (overlaps file) u
-          lower =
-              ⊎-elim (λ h. overlap-last order u r h found-window (ends-past u r h found-window (found .before (omega arith))))
-              (λ h. omega (arith, last-ge order u))
-              (lt-or-ge u r)
+    -- What it finds is the last.
+    pub last-found : r ≡ lastOf file u
+    unfolding lastOf
+    last-found = rw (← p .counted) (sym (le-antisymm upper lower))
+      where
+        order : IntervalOrder windows (overlaps file)
+        order = rw (p .counted) (interval-order file (p .accepted))
+
+        farthest : ℕ
+        farthest = last windows (overlaps file) u
+
+        upper : farthest ≤ r
+        upper =
+            ⊎-elim
+            (λ c. ⊎-elim
+            (λ h. absurd (true-false-absurd _ (c .2) (ends-before file windows (p .accepted) (p .counted) u farthest (c .0) (c .1) (omega (arith, held farthest (c .1), found .past farthest h (omega (arith, c .1, prepared-few)))))))
+            (λ h. h)
+            (lt-or-ge r farthest))
+            (λ e. omega (arith, e, found-late))
+            (last-cases windows (overlaps file) u)
+
+        lower : r ≤ farthest
+        lower =
+            ⊎-elim
+            (λ h. overlap-last order u r h found-window (ends-past file windows (p .accepted) (p .counted) u r h found-window (omega (arith, held r found-window, found .before (omega arith)))))
+            (λ h. omega (arith, last-ge order u))
+            (lt-or-ge u r)
 
 pub fingers-start : (file : List ℕ) (windows : ℕ) (parents₀ : List ℕ) → Fingers file windows parents₀ parents₀ 0 0
 fingers-start file windows parents₀ =

@@ -11,7 +11,7 @@ use Rattle.plan.specs.declared.windows.Window.{Window}
 use Rattle.plan.specs.File.{headerLength, windowLength, fileLength, windowCount, windowAt, endOf}
 use Rattle.plan.specs.Validation.{AcceptedPlan}
 use Rattle.tree.specs.Tables.{offsetAt, endAt}
-use Rattle.tree.specs.Passes.{Prepared, Padded}
+use Rattle.tree.specs.Passes.{Prepared}
 use Rattle.plan.proofs.Accepted.{Sound, accepted-sound}
 
 -- The eight bytes of a window of an accepted plan lie in its file, and its end fits.
@@ -37,23 +37,16 @@ end-read file v w same = ap (λ (x : Window). x .offset + x .length) same
 pub windows-fit : (file : List ℕ) (windows : ℕ) → AcceptedPlan file → windows ≡ windowCount file → windows ≤ 2048
 windows-fit file windows ok counted = omega (arith, accepted-sound file ok .few)
 
--- The two tables that the pass leaves are what the passes after it are handed.
-pub prepared-read : (file : List ℕ) (windows : ℕ) (offsets₀ ends₀ offsets ends : List ℕ) → AcceptedPlan file → windows ≡ windowCount file → windows ≤ length offsets₀ → windows ≤ length ends₀ → offsets ≡ overwritten offsets₀ (table (offsetAt file) windows) → ends ≡ overwritten ends₀ (table (endAt file) windows) → Prepared file windows offsets ends
-prepared-read file windows offsets₀ ends₀ offsets ends ok counted o e f g =
-    record {
-      accepted = ok;
-      counted = counted;
-      offsets-held = overwritten-holds (offsetAt file) windows offsets₀ offsets o f;
-      ends-held = overwritten-holds (endAt file) windows ends₀ ends e g;
-    }
-
--- Where the table of offsets was full of the greatest number, it still is past the windows.
-pub padded-read : (file : List ℕ) (windows : ℕ) (offsets : List ℕ) → windows ≤ 2048 → offsets ≡ overwritten (replicate 2048 4294967295) (table (offsetAt file) windows) → Padded offsets windows
-padded-read file windows offsets few e = filled 2048 few e refl
+-- The table of offsets that the pass leaves, where it was full of the greatest number before.
+pub prepared-read : (file : List ℕ) (windows : ℕ) (offsets : List ℕ) → AcceptedPlan file → windows ≡ windowCount file → offsets ≡ overwritten (replicate 2048 4294967295) (table (offsetAt file) windows) → Prepared file windows offsets
+prepared-read file windows offsets ok counted e = filled 2048 (windows-fit file windows ok counted) e refl
   where
-    filled : (n : ℕ) → windows ≤ n → offsets ≡ overwritten (replicate n 4294967295) (table (offsetAt file) windows) → n ≡ 2048 → Padded offsets windows
+    filled : (n : ℕ) → windows ≤ n → offsets ≡ overwritten (replicate n 4294967295) (table (offsetAt file) windows) → n ≡ 2048 → Prepared file windows offsets
     filled n room written size =
         record {
+          accepted = ok;
+          counted = counted;
+          offsets-held = overwritten-holds (offsetAt file) windows (replicate n 4294967295) offsets (omega (arith, length-replicate {A = ℕ} n 4294967295)) written;
           long = rw written (omega (arith, size, length-overwritten (replicate n 4294967295) (table (offsetAt file) windows) (omega (arith, length-replicate {A = ℕ} n 4294967295, length-table (offsetAt file) windows)), length-replicate {A = ℕ} n 4294967295));
           rest = λ k h within. rw written (overwritten-past (offsetAt file) windows (replicate n 4294967295) k 0 h ∙ getD-replicate n k 4294967295 0 (omega arith));
         }

@@ -14,16 +14,16 @@ use Rattle.sequences.proofs.Tests.{lt-or-ge}
 use Rattle.tree.specs.Passes.{FirstPast, Sorted, LastBefore}
 
 -- Before `at` no end lies past the offset.
-pub record NonePast (ends : List ℕ) (offset from to at : ℕ) : Type 0 where
+pub record NonePast (ends : ℕ → ℕ) (offset from to at : ℕ) : Type 0 where
   pub low : from ≤ at
   pub high : at ≤ to
-  pub before : (k : ℕ) → from ≤ k → k < at → getD ends k 0 ≤ offset
+  pub before : (k : ℕ) → from ≤ k → k < at → ends k ≤ offset
 
-module _ (ends : List ℕ) (offset from to : ℕ) where
+module _ (ends : ℕ → ℕ) (offset from to : ℕ) where
   pub none-past-start : from ≤ to → NonePast ends offset from to from
   none-past-start h = record { low = omega arith; high = h; before = λ k l r. absurd (omega arith) }
 
-  pub none-past-turn : (at : ℕ) → at < to → getD ends at 0 ≤ offset → NonePast ends offset from to at → NonePast ends offset from to (at + 1)
+  pub none-past-turn : (at : ℕ) → at < to → ends at ≤ offset → NonePast ends offset from to at → NonePast ends offset from to (at + 1)
   none-past-turn at h here s =
       record {
         low = omega (arith, s .low);
@@ -31,7 +31,7 @@ module _ (ends : List ℕ) (offset from to : ℕ) where
         before = λ k l r. ⊎-elim (λ g. s .before k l g) (λ g. let e : k ≡ at = omega arith in rw e here) (lt-or-ge k at);
       }
 
-  pub none-past-found : (at : ℕ) → (at < to → offset < getD ends at 0) → NonePast ends offset from to at → FirstPast ends offset from to at
+  pub none-past-found : (at : ℕ) → (at < to → offset < ends at) → NonePast ends offset from to at → FirstPast ends offset from to at
   none-past-found at found s = record { low = s .low; high = s .high; past = found; before = s .before }
 
 -- The offset at `low` lies before the end, unless it is the first, and none from `low + width` on does.

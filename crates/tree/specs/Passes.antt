@@ -1,6 +1,6 @@
 -- What the passes are handed and what the searches inside them find. Nothing here has to be believed: no public promise
 -- cites it.
--- Vocabulary: Prepared, Parented, Numbered, FirstPast, Padded, Sorted, LastBefore.
+-- Vocabulary: Prepared, Parented, Numbered, FirstPast, Sorted, LastBefore.
 use Prim.Native.Nat.{ℕ, _≤_, _<_}
 use mathlib.Core.Path.{_≡_}
 use mathlib.Core.List.{List}
@@ -8,14 +8,16 @@ use lib.ListN.{length, getD}
 use Rattle.sequences.specs.Table.{Holds}
 use Rattle.plan.specs.File.{windowCount}
 use Rattle.plan.specs.Validation.{AcceptedPlan}
-use Rattle.tree.specs.Tables.{offsetAt, endAt, parentOf, componentOf, depthOf, rankOf, lastRankOf}
+use Rattle.tree.specs.Tables.{offsetAt, parentOf, componentOf, depthOf, rankOf, lastRankOf}
 
--- An accepted plan's file, how many windows it has, and its offsets and ends as tables.
-pub record Prepared (file : List ℕ) (windows : ℕ) (offsets ends : List ℕ) : Type 0 where
+-- An accepted plan's file, how many windows it has, and its offsets as a table of 2,048 entries, which is filled up with a number
+-- that no end lies past.
+pub record Prepared (file : List ℕ) (windows : ℕ) (offsets : List ℕ) : Type 0 where
   pub accepted : AcceptedPlan file
   pub counted : windows ≡ windowCount file
   pub offsets-held : Holds offsets (offsetAt file) windows
-  pub ends-held : Holds ends (endAt file) windows
+  pub long : length offsets ≡ 2048
+  pub rest : (k : ℕ) → windows ≤ k → k < 2048 → getD offsets k 0 ≡ 4294967295
 
 -- An accepted plan's file, how many windows it has, and its parent table.
 pub record Parented (file : List ℕ) (windows : ℕ) (parents : List ℕ) : Type 0 where
@@ -33,16 +35,11 @@ pub record Numbered (file : List ℕ) (windows : ℕ) (components depths ranks l
   pub last-ranks-held : Holds lastRanks (lastRankOf file) windows
 
 -- r is the first position from `from` on whose end lies past the offset, or `to`.
-pub record FirstPast (ends : List ℕ) (offset from to r : ℕ) : Type 0 where
+pub record FirstPast (ends : ℕ → ℕ) (offset from to r : ℕ) : Type 0 where
   pub low : from ≤ r
   pub high : r ≤ to
-  pub past : r < to → offset < getD ends r 0
-  pub before : (k : ℕ) → from ≤ k → k < r → getD ends k 0 ≤ offset
-
--- A table of 2,048 offsets that is filled up, from the last window on, with a number that no end lies past.
-pub record Padded (offsets : List ℕ) (windows : ℕ) : Type 0 where
-  pub long : length offsets ≡ 2048
-  pub rest : (k : ℕ) → windows ≤ k → k < 2048 → getD offsets k 0 ≡ 4294967295
+  pub past : r < to → offset < ends r
+  pub before : (k : ℕ) → from ≤ k → k < r → ends k ≤ offset
 
 -- The first n entries do not fall.
 abbrev pub Sorted : List ℕ → ℕ → Type 0

@@ -1,11 +1,10 @@
 // Build: validation, room, and then the passes, one after the other.
 use crate::answers::BuildAnswer;
-use crate::lasts::find_lasts;
+use crate::lasts::fill_lasts;
 use crate::levels::number_levels;
 use crate::parents::find_parents;
 use crate::ranks::fill_ranks;
 use crate::ranks::rank_lasts;
-use crate::spans::read_spans;
 use crate::tagging::write_tags;
 use plan::Validation;
 use tag::Tag;
@@ -18,7 +17,7 @@ ghost use Rattle.sequences.specs.Table.{table, overwritten};
 ghost use Rattle.plan.specs.File.{planNumber, windowCount};
 ghost use Rattle.plan.specs.Validation.{AcceptedPlan};
 ghost use Rattle.tag.specs.TagFile.{tagFile};
-ghost use Rattle.tree.specs.Tables.{parentOf, lastOf, componentOf, depthOf, rankOf, lastRankOf, componentCount, numbersAt};
+ghost use Rattle.tree.specs.Tables.{parentOf, componentOf, depthOf, rankOf, lastRankOf, componentCount, numbersAt};
 ghost use Rattle.tree.specs.Build.{tablesFit, buildOf, afterBuild, afterTags};
 
 // Whether tables of so many entries, and a tag file of so many bytes, hold what is to be written.
@@ -52,22 +51,6 @@ fn tables_fit(
     Tag::LENGTH * windows <= tags
 }
 
-// Parents and lasts, from the windows' offsets and ends.
-fn fill_parents_and_lasts(file: &[u8], windows: usize, parents: &mut [u16], lasts: &mut [u16])
-    requires { ⌜ AcceptedPlan (now file) ⌝ }
-    requires { ⌜ windows ≡ windowCount (now file) ⌝ }
-    requires { ⌜ windows ≤ length (now parents) ⌝ }
-    requires { ⌜ windows ≤ length (now lasts) ⌝ }
-    ensures { λ _. ⌜ now (parents .exit) ≡ overwritten (now (parents .entry)) (table (parentOf (now (file .entry))) windows) ⌝ }
-    ensures { λ _. ⌜ now (lasts .exit) ≡ overwritten (now (lasts .entry)) (table (lastOf (now (file .entry))) windows) ⌝ }
-{
-    let mut offsets = [4294967295; 2048];
-    let mut ends = [0; 2048];
-    read_spans(file, windows, &mut offsets, &mut ends);
-    find_parents(file, windows, &offsets, &ends, parents);
-    find_lasts(file, windows, &offsets, &ends, lasts);
-}
-
 // The five tables and the tag file of an accepted plan that they have room for; answers with the number of components.
 fn fill_tables(
     file: &[u8],
@@ -93,7 +76,8 @@ fn fill_tables(
     ensures { λ _. ⌜ now (tags .exit) ≡ overwritten (now (tags .entry)) (tagFile (numbersAt (now (file .entry))) windows) ⌝ }
 {
     let mut lasts = [0; 2048];
-    fill_parents_and_lasts(file, windows, parents, &mut lasts);
+    find_parents(file, windows, parents);
+    fill_lasts(file, windows, &mut lasts);
     let count = number_levels(file, windows, parents, components, depths);
     fill_ranks(file, windows, parents, ranks);
     rank_lasts(file, windows, &lasts, ranks, last_ranks);

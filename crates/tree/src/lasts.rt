@@ -1,6 +1,7 @@
 // The last of each window, by a search over the later windows' offsets, which do not fall.
 use crate::answers::TableAnswer;
-use crate::spans::read_spans;
+use crate::windows::end_at;
+use crate::windows::read_offsets;
 use plan::Validation;
 use wire::Refusal;
 ghost use mathlib.Core.Path.{_≡_};
@@ -11,7 +12,7 @@ ghost use Rattle.tree.specs.Tables.{lastOf};
 ghost use Rattle.plan.specs.File.{windowCount};
 ghost use Rattle.plan.specs.Validation.{AcceptedPlan};
 ghost use Rattle.tree.specs.SingleTable.{tableOf, afterTable};
-ghost use Rattle.tree.specs.Passes.{Prepared, Padded, Sorted, LastBefore};
+ghost use Rattle.tree.specs.Passes.{Prepared, Sorted, LastBefore};
 
 // The last position whose offset lies before the end; 0 where there is none. The table is as long for every plan and the
 // comparison is a factor, so that the search compiles to no branch that a processor would have to guess.
@@ -30,35 +31,27 @@ fn last_before(offsets: &[u32], end: u32) -> usize
     low
 }
 
-pub(crate) fn find_lasts(
-    file: &[u8],
-    windows: usize,
-    offsets: &[u32],
-    ends: &[u32],
-    lasts: &mut [u16],
-)
-    requires { ⌜ Prepared (now file) windows (now offsets) (now ends) ⌝ }
-    requires { ⌜ Padded (now offsets) windows ⌝ }
+fn find_lasts(file: &[u8], windows: usize, offsets: &[u32], lasts: &mut [u16])
+    requires { ⌜ Prepared (now file) windows (now offsets) ⌝ }
     requires { ⌜ windows ≤ length (now lasts) ⌝ }
     ensures { λ _. ⌜ now (lasts .exit) ≡ overwritten (now (lasts .entry)) (table (lastOf (now (file .entry))) windows) ⌝ }
 {
     let mut position = 0;
     while position < windows {
-        lasts[position] = last_before(offsets, ends[position]) as u16;
+        lasts[position] = last_before(offsets, end_at(file, position)) as u16;
         position += 1;
     }
 }
 
-fn fill_lasts(file: &[u8], windows: usize, lasts: &mut [u16])
+pub(crate) fn fill_lasts(file: &[u8], windows: usize, lasts: &mut [u16])
     requires { ⌜ AcceptedPlan (now file) ⌝ }
     requires { ⌜ windows ≡ windowCount (now file) ⌝ }
     requires { ⌜ windows ≤ length (now lasts) ⌝ }
     ensures { λ _. ⌜ now (lasts .exit) ≡ overwritten (now (lasts .entry)) (table (lastOf (now (file .entry))) windows) ⌝ }
 {
     let mut offsets = [4294967295; 2048];
-    let mut ends = [0; 2048];
-    read_spans(file, windows, &mut offsets, &mut ends);
-    find_lasts(file, windows, &offsets, &ends, lasts);
+    read_offsets(file, windows, &mut offsets);
+    find_lasts(file, windows, &offsets, lasts);
 }
 
 // The last table by itself.

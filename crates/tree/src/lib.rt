@@ -7,8 +7,8 @@ mod parents;
 mod ranks;
 mod reaching;
 mod sizes;
-mod spans;
 mod tagging;
+mod windows;
 
 pub use answers::BuildAnswer;
 pub use answers::ReachAnswer;

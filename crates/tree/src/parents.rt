@@ -1,27 +1,29 @@
 // The parent table, by two fingers: the parent moves only to the right as the window does, so all of it is linear.
 use crate::answers::TableAnswer;
-use crate::spans::read_spans;
+use crate::windows::end_at;
+use crate::windows::offset_at;
 use plan::Validation;
 use wire::Refusal;
 ghost use mathlib.Core.Path.{_≡_};
 ghost use Prim.Native.Nat.{_≤_};
 ghost use lib.ListN.{length};
 ghost use Rattle.sequences.specs.Table.{table, overwritten};
-ghost use Rattle.tree.specs.Tables.{parentOf};
+ghost use Rattle.tree.specs.Tables.{parentOf, endAt};
 ghost use Rattle.plan.specs.File.{windowCount};
 ghost use Rattle.plan.specs.Validation.{AcceptedPlan};
 ghost use Rattle.tree.specs.SingleTable.{tableOf, afterTable};
-ghost use Rattle.tree.specs.Passes.{Prepared, FirstPast};
+ghost use Rattle.tree.specs.Passes.{FirstPast};
 
 // The first position from `from` on whose end lies past the offset, or `to` where there is none before it.
-fn first_past(ends: &[u32], offset: u32, from: usize, to: usize) -> usize
+fn first_past(file: &[u8], offset: u32, from: usize, to: usize) -> usize
+    requires { ⌜ AcceptedPlan (now file) ⌝ }
     requires { ⌜ from ≤ to ⌝ }
-    requires { ⌜ to ≤ length (now ends) ⌝ }
-    ensures { λ r. ⌜ FirstPast (now (ends .entry)) offset from to r ⌝ }
+    requires { ⌜ to ≤ windowCount (now file) ⌝ }
+    ensures { λ r. ⌜ FirstPast (endAt (now (file .entry))) offset from to r ⌝ }
 {
     let mut at = from;
     while at < to {
-        if offset < ends[at] {
+        if offset < end_at(file, at) {
             return at;
         }
         at += 1;
@@ -29,36 +31,19 @@ fn first_past(ends: &[u32], offset: u32, from: usize, to: usize) -> usize
     at
 }
 
-pub(crate) fn find_parents(
-    file: &[u8],
-    windows: usize,
-    offsets: &[u32],
-    ends: &[u32],
-    parents: &mut [u16],
-)
-    requires { ⌜ Prepared (now file) windows (now offsets) (now ends) ⌝ }
+pub(crate) fn find_parents(file: &[u8], windows: usize, parents: &mut [u16])
+    requires { ⌜ AcceptedPlan (now file) ⌝ }
+    requires { ⌜ windows ≡ windowCount (now file) ⌝ }
     requires { ⌜ windows ≤ length (now parents) ⌝ }
     ensures { λ _. ⌜ now (parents .exit) ≡ overwritten (now (parents .entry)) (table (parentOf (now (file .entry))) windows) ⌝ }
 {
     let mut parent = 0;
     let mut position = 0;
     while position < windows {
-        parent = first_past(ends, offsets[position], parent, position);
+        parent = first_past(file, offset_at(file, position), parent, position);
         parents[position] = parent as u16;
         position += 1;
     }
-}
-
-pub(crate) fn fill_parents(file: &[u8], windows: usize, parents: &mut [u16])
-    requires { ⌜ AcceptedPlan (now file) ⌝ }
-    requires { ⌜ windows ≡ windowCount (now file) ⌝ }
-    requires { ⌜ windows ≤ length (now parents) ⌝ }
-    ensures { λ _. ⌜ now (parents .exit) ≡ overwritten (now (parents .entry)) (table (parentOf (now (file .entry))) windows) ⌝ }
-{
-    let mut offsets = [0; 2048];
-    let mut ends = [0; 2048];
-    read_spans(file, windows, &mut offsets, &mut ends);
-    find_parents(file, windows, &offsets, &ends, parents);
 }
 
 // The parent table by itself.
@@ -77,6 +62,6 @@ pub fn parent_table(file: &[u8], parents: &mut [u16]) -> TableAnswer
             position: 0,
         });
     }
-    fill_parents(file, windows as usize, parents);
+    find_parents(file, windows as usize, parents);
     TableAnswer::Filled { windows }
 }

@@ -1,7 +1,7 @@
 // Reach: the depth of the last window of a position's component, plus 1.
 use crate::answers::ReachAnswer;
 use crate::levels::number_levels;
-use crate::parents::fill_parents;
+use crate::parents::find_parents;
 use plan::Validation;
 use wire::Refusal;
 ghost use mathlib.Core.Path.{_≡_};
@@ -41,7 +41,7 @@ fn find_reach(file: &[u8], windows: usize, at: usize) -> u16
     let mut parents = [0; 2048];
     let mut components = [0; 2048];
     let mut depths = [0; 2048];
-    fill_parents(file, windows, &mut parents);
+    find_parents(file, windows, &mut parents);
     number_levels(file, windows, &parents, &mut components, &mut depths);
     let last = last_in_component(file, windows, &components, at);
     depths[last] + 1

@@ -5,33 +5,30 @@ use Prim.Native.Nat.{_-_}
 use native.Mathlib.Omega.{arith}
 use Rattle.sequences.proofs.Table.{Filling, filling-start, filling-turn, filling-end}
 use Rattle.tree.specs.Tables.{lastOf}
-use Rattle.tree.proofs.Prepared.{padded-do-not-fall, last-found}
+use Rattle.tree.proofs.Prepared.{prepared-do-not-fall, last-found}
 use borrow.Author.Needs.{needs}
 use Rattle.tree.proofs.lasts.find_lasts.Statement.{statement}
 use Rattle.tree.proofs.lasts.find_lasts.Tie as tie
 
 abbrev Inv-loop : tie.InvT-loop
-Inv-loop file windows offsets ends lasts₀ position₀ lasts position = Filling (lastOf file) windows lasts₀ lasts position
+Inv-loop file windows offsets lasts₀ position₀ lasts position = Filling (lastOf file) windows lasts₀ lasts position
 
 abbrev μ-loop : tie.MeasureT-loop
-μ-loop file windows offsets ends lasts₀ position₀ lasts position = windows - position
+μ-loop file windows offsets lasts₀ position₀ lasts position = windows - position
 
 loop-holds : tie.Need-loop-holds Inv-loop μ-loop
 loop-holds c = filling-start _ _ _
 
-mul-last-before : tie.Need-mul-last-before Inv-loop μ-loop
-mul-last-before c = search needs
-
-shared-slice-read-last-before : tie.Need-shared-slice-read-last-before Inv-loop μ-loop
-shared-slice-read-last-before c = search needs
+end-at-requires : tie.Need-end-at-requires Inv-loop μ-loop
+end-at-requires c κs = let d = c .before .before .before .before .before in
+    (d .pre .0 .accepted, omega (arith, d .pre .0 .counted))
 
 last-before-requires : tie.Need-last-before-requires Inv-loop μ-loop
-last-before-requires c κs = let d = c .before .before .before .before .before .before .before in
-    (omega (arith, d .pre .1 .0 .long), padded-do-not-fall (d .pre .0) (d .pre .1 .0))
+last-before-requires c κs = let d = c .before .before .before .before .before .before in
+    (omega (arith, d .pre .0 .long), prepared-do-not-fall (d .pre .0))
 
 cast-lasts : tie.Need-cast-lasts Inv-loop μ-loop
-cast-lasts c = let d = c .before .before .before .before .before .before .before .before in
-    omega (arith, c .last-before .ensures .high)
+cast-lasts c = omega (arith, c .last-before .ensures .high)
 
 mul-lasts : tie.Need-mul-lasts Inv-loop μ-loop
 mul-lasts c = search needs
@@ -46,9 +43,9 @@ loop-less : tie.Need-loop-less Inv-loop μ-loop
 loop-less c = search needs
 
 loop-again : tie.Need-loop-again Inv-loop μ-loop
-loop-again c = let d = c .before .before .before .before .before .before .before .before in
+loop-again c = let d = c .before .before .before .before .before .before .before in
     let h = c .before .before .loop-test .taken in
-    filling-turn _ _ _ _ _ _ (d .pre .1 .1) h (last-found (d .pre .0) (d .pre .1 .0) _ _ h (c .last-before .ensures)) (c .before .before .before .loop .inv)
+    filling-turn _ _ _ _ _ _ (d .pre .1) h (last-found (d .pre .0) _ _ h (rw (c .before .end-at .ensures) at (c .last-before .ensures))) (c .before .before .before .loop .inv)
 
 same-length : tie.Need-same-length Inv-loop μ-loop
 same-length c = search needs
@@ -63,8 +60,7 @@ find-lasts-spec =
     Inv-loop
     μ-loop
     loop-holds
-    mul-last-before
-    shared-slice-read-last-before
+    end-at-requires
     last-before-requires
     cast-lasts
     mul-lasts

@@ -2,6 +2,7 @@
 -- Assumes nothing.
 use Prim.Native.Nat.{_-_}
 use native.Mathlib.Omega.{arith}
+use denote.Ref.{now}
 use Rattle.sequences.proofs.Table.{filling-end}
 use Rattle.tree.proofs.Prepared.{Fingers, fingers-start, fingers-turn, windows-few}
 use borrow.Author.Needs.{needs}
@@ -9,26 +10,23 @@ use Rattle.tree.proofs.parents.find_parents.Statement.{statement}
 use Rattle.tree.proofs.parents.find_parents.Tie as tie
 
 abbrev Inv-loop : tie.InvT-loop
-Inv-loop file windows offsets ends parents₀ parent₀ position₀ parents parent position = Fingers file windows parents₀ parents parent position
+Inv-loop file windows parents₀ parent₀ position₀ parents parent position = Fingers file windows parents₀ parents parent position
 
 abbrev μ-loop : tie.MeasureT-loop
-μ-loop file windows offsets ends parents₀ parent₀ position₀ parents parent position = windows - position
+μ-loop file windows parents₀ parent₀ position₀ parents parent position = windows - position
 
 loop-holds : tie.Need-loop-holds Inv-loop μ-loop
 loop-holds c = fingers-start _ _ _
 
-mul-first-past : tie.Need-mul-first-past Inv-loop μ-loop
-mul-first-past c = search needs
-
-shared-slice-read-first-past : tie.Need-shared-slice-read-first-past Inv-loop μ-loop
-shared-slice-read-first-past c = search needs
+offset-at-requires : tie.Need-offset-at-requires Inv-loop μ-loop
+offset-at-requires c κs = search needs
 
 first-past-requires : tie.Need-first-past-requires Inv-loop μ-loop
 first-past-requires c κs = search needs
 
 cast-parents : tie.Need-cast-parents Inv-loop μ-loop
-cast-parents c = let d = c .before .before .before .before .before .before .before .before in
-    omega (arith, c .first-past .ensures .high, windows-few (d .pre .0))
+cast-parents c = let d = c .before .before .before .before .before .before in
+    omega (arith, c .first-past .ensures .high, windows-few (now (d .args .file)) (d .args .windows) (d .pre .0) (d .pre .1 .0))
 
 mul-parents : tie.Need-mul-parents Inv-loop μ-loop
 mul-parents c = search needs
@@ -43,8 +41,8 @@ loop-less : tie.Need-loop-less Inv-loop μ-loop
 loop-less c = search needs
 
 loop-again : tie.Need-loop-again Inv-loop μ-loop
-loop-again c = let d = c .before .before .before .before .before .before .before .before in
-    fingers-turn (d .pre .0) _ _ _ _ _ (d .pre .1) (c .before .before .loop-test .taken) (c .first-past .ensures) (c .before .before .before .loop .inv)
+loop-again c = let d = c .before .before .before .before .before .before in
+    fingers-turn _ _ (d .pre .0) (d .pre .1 .0) _ _ _ _ _ (d .pre .1 .1) (c .before .before .loop-test .taken) (rw (c .before .offset-at .ensures) at (c .first-past .ensures)) (c .before .before .before .loop .inv)
 
 same-length : tie.Need-same-length Inv-loop μ-loop
 same-length c = search needs
@@ -59,8 +57,7 @@ find-parents-spec =
     Inv-loop
     μ-loop
     loop-holds
-    mul-first-past
-    shared-slice-read-first-past
+    offset-at-requires
     first-past-requires
     cast-parents
     mul-parents

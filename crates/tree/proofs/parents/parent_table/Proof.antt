@@ -28,11 +28,11 @@ returns-2 : tie.Need-returns-2
 unfolding afterTable
 returns-2 c = (table-short _ _ (c .before .before .before .before .validate .ensures) _ _ (c .before .before .windows .given .1) _ (c .if1 .taken), refl)
 
-cast-fill-parents : tie.Need-cast-fill-parents
-cast-fill-parents c = search needs
+cast-find-parents : tie.Need-cast-find-parents
+cast-find-parents c = search needs
 
-fill-parents-requires : tie.Need-fill-parents-requires
-fill-parents-requires c κs = let e = sym (c .before .before .before .windows .given .1) ∙ c .before .before .before .before .before .validate .ensures in
+find-parents-requires : tie.Need-find-parents-requires
+find-parents-requires c κs = let e = sym (c .before .before .before .windows .given .1) ∙ c .before .before .before .before .before .validate .ensures in
     (accepted-plan _ _ _ e, (accepted-numbers _ _ _ e .1, c .before .if1 .left))
 
 same-length : tie.Need-same-length
@@ -40,7 +40,7 @@ same-length c = search needs
 
 returns-3 : tie.Need-returns-3
 unfolding afterTable
-returns-3 c = (table-filled _ _ (c .before .before .before .before .before .before .before .before .validate .ensures) _ _ (c .before .before .before .before .before .before .windows .given .1) _ (c .before .before .before .before .if1 .left), c .before .before .fill-parents .ensures)
+returns-3 c = (table-filled _ _ (c .before .before .before .before .before .before .before .before .validate .ensures) _ _ (c .before .before .before .before .before .before .windows .given .1) _ (c .before .before .before .before .if1 .left), c .before .before .find-parents .ensures)
 
 pub parent-table-spec : {M : Type 1} → statement M
 parent-table-spec =
@@ -52,7 +52,7 @@ parent-table-spec =
     returns
     cast-if1
     returns-2
-    cast-fill-parents
-    fill-parents-requires
+    cast-find-parents
+    find-parents-requires
     same-length
     returns-3)

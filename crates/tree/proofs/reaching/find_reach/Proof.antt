@@ -10,11 +10,11 @@ use borrow.Author.Needs.{needs}
 use Rattle.tree.proofs.reaching.find_reach.Statement.{statement}
 use Rattle.tree.proofs.reaching.find_reach.Tie as tie
 
-slice-aggregate-fill-parents : tie.Need-slice-aggregate-fill-parents
-slice-aggregate-fill-parents c = search needs
+slice-aggregate-find-parents : tie.Need-slice-aggregate-find-parents
+slice-aggregate-find-parents c = search needs
 
-fill-parents-requires : tie.Need-fill-parents-requires
-fill-parents-requires c κs = let q = c .before .before .pre in
+find-parents-requires : tie.Need-find-parents-requires
+find-parents-requires c κs = let q = c .before .before .pre in
     (q .0, (q .1 .0, windows-fit _ _ (q .0) (q .1 .0)))
 
 slice-aggregate-number-levels : tie.Need-slice-aggregate-number-levels
@@ -29,7 +29,7 @@ slice-aggregate-number-levels-3 c = search needs
 number-levels-requires : tie.Need-number-levels-requires
 number-levels-requires c κs = let q = c .before .before .before .before .before .before .before .pre in
     let fits = windows-fit _ _ (q .0) (q .1 .0) in
-    (parented-filled _ _ _ _ (q .0) (q .1 .0) fits (c .before .before .before .before .fill-parents .ensures), (fits, fits))
+    (parented-filled _ _ _ _ (q .0) (q .1 .0) fits (c .before .before .before .before .find-parents .ensures), (fits, fits))
 
 slice-aggregate-last-in-component : tie.Need-slice-aggregate-last-in-component
 slice-aggregate-last-in-component c = search needs
@@ -60,8 +60,8 @@ pub find-reach-spec : {M : Type 1} → statement M
 find-reach-spec =
     tie.close
     (tie.spec
-    slice-aggregate-fill-parents
-    fill-parents-requires
+    slice-aggregate-find-parents
+    find-parents-requires
     slice-aggregate-number-levels
     slice-aggregate-number-levels-2
     slice-aggregate-number-levels-3
