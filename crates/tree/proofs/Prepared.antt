@@ -24,6 +24,7 @@ use Rattle.plan.proofs.Accepted.{accepted-sound, offsets-sorted}
 use Rattle.plan.proofs.Overlap.{overlaps-end, interval-order}
 use Rattle.tree.specs.Tables.{offsetAt, endAt, parentOf, lastOf}
 use Rattle.tree.specs.Passes.{Prepared, FirstPast, Sorted, LastBefore}
+use Rattle.tree.proofs.Reading.{windows-fit}
 
 -- No window before `finger` overlaps one from v on.
 abbrev Behind : List ℕ → ℕ → ℕ → ℕ → Type 0
@@ -51,9 +52,6 @@ module _ (file : List ℕ) (windows : ℕ) (ok : AcceptedPlan file) (counted : w
   offsets-do-not-fall : (i j : ℕ) → i ≤ j → j < windows → offsetAt file i ≤ offsetAt file j
   unfolding offsetAt
   offsets-do-not-fall i j le within = offsets-sorted file (accepted-sound file ok) i j le (omega (arith, counted))
-
-  pub windows-few : windows ≤ 2048
-  windows-few = omega (arith, counted, accepted-sound file ok .few)
 
   module _ (finger v r : ℕ) (within : v < windows) (behind : Behind file windows finger v) (found : FirstPast (endAt file) (offsetAt file v) finger v r) where
     -- What the search passes over overlaps nothing from v on.
@@ -92,8 +90,8 @@ module _ {file : List ℕ} {windows : ℕ} {offsets : List ℕ} (p : Prepared fi
   held : (k : ℕ) → k < windows → getD offsets k 0 ≡ offsetAt file k
   held = p .offsets-held .at
 
-  pub prepared-few : windows ≤ 2048
-  prepared-few = windows-few file windows (p .accepted) (p .counted)
+  prepared-few : windows ≤ 2048
+  prepared-few = windows-fit file windows (p .accepted) (p .counted)
 
   pub prepared-do-not-fall : Sorted offsets 2048
   prepared-do-not-fall i j le within =

@@ -1,4 +1,4 @@
--- The pass that reads the windows: where they lie in the file of an accepted plan, and that their ends fit.
+-- Where the windows of an accepted plan lie in its file, that their ends fit, and the table of their offsets.
 -- Assumes nothing.
 use Prim.Native.Nat.{ℕ, _+_, _*_, _≤_, _<_}
 use mathlib.Core.Path.{_≡_, refl, ap, _∙_}
@@ -24,7 +24,7 @@ module _ (file : List ℕ) (ok : AcceptedPlan file) (v : ℕ) (h : v < windowCou
   unfolding endOf
   end-early w same = rw same (accepted-sound file ok .early v h)
 
--- The entries that the pass stores.
+-- The offset and the end of a window that was read.
 pub offset-read : (file : List ℕ) (v : ℕ) (w : Window) → w ≡ windowAt file v → w .offset ≡ offsetAt file v
 unfolding offsetAt
 offset-read file v w same = ap (λ (x : Window). x .offset) same

@@ -1,4 +1,4 @@
--- The searches inside the passes: their invariants and turns, over plain lists.
+-- The searches inside the passes: their invariants and turns, over any ends and any table of offsets.
 -- Assumes nothing.
 use Prim.Native.Nat.{ℕ, _+_, _-_, _*_, _≤_, _<_}
 use mathlib.Core.Bool.{Bool, true, false}

@@ -4,7 +4,8 @@ use Prim.Native.Nat.{_-_}
 use native.Mathlib.Omega.{arith}
 use denote.Ref.{now}
 use Rattle.sequences.proofs.Table.{filling-end}
-use Rattle.tree.proofs.Prepared.{Fingers, fingers-start, fingers-turn, windows-few}
+use Rattle.tree.proofs.Reading.{windows-fit}
+use Rattle.tree.proofs.Prepared.{Fingers, fingers-start, fingers-turn}
 use borrow.Author.Needs.{needs}
 use Rattle.tree.proofs.parents.find_parents.Statement.{statement}
 use Rattle.tree.proofs.parents.find_parents.Tie as tie
@@ -26,7 +27,7 @@ first-past-requires c κs = search needs
 
 cast-parents : tie.Need-cast-parents Inv-loop μ-loop
 cast-parents c = let d = c .before .before .before .before .before .before in
-    omega (arith, c .first-past .ensures .high, windows-few (now (d .args .file)) (d .args .windows) (d .pre .0) (d .pre .1 .0))
+    omega (arith, c .first-past .ensures .high, windows-fit (now (d .args .file)) (d .args .windows) (d .pre .0) (d .pre .1 .0))
 
 mul-parents : tie.Need-mul-parents Inv-loop μ-loop
 mul-parents c = search needs
