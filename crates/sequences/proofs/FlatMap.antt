@@ -25,10 +25,10 @@ flatMap-sound f (y ∷ l) x m =
     (λ h. let r = flatMap-sound f l x h in (r .0, List·Memᴰ·tail (r .1), r .2)) (List·Memᴰ·append-cases (f y) m)
 
 -- Of two lists one after another it is the one after the other.
-pub flatMap-append : (f : ℕ → List ℕ) (l m : List ℕ) → flatMap f (l ++ m) ≡ flatMap f l ++ flatMap f m
+pub flatMap-append : {A B : Type 0} (f : A → List B) (l m : List A) → flatMap f (l ++ m) ≡ flatMap f l ++ flatMap f m
 unfolding flatMap
 flatMap-append f [] m = refl
-flatMap-append f (x ∷ l) m = ap (λ (r : List ℕ). f x ++ r) (flatMap-append f l m) ∙ sym (append-assoc (f x) (flatMap f l) (flatMap f m))
+flatMap-append f (x ∷ l) m = ap (λ r. f x ++ r) (flatMap-append f l m) ∙ sym (append-assoc (f x) (flatMap f l) (flatMap f m))
 
 -- It depends on the function at the list's elements only.
 pub flatMap-cong : (f g : ℕ → List ℕ) (l : List ℕ) → ((x : ℕ) → List·Memᴰ x l → f x ≡ g x) → flatMap f l ≡ flatMap g l

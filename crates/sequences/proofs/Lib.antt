@@ -7,3 +7,4 @@ pub mod FlatMap
 pub mod Pairwise
 pub mod Table
 pub mod Appending
+pub mod Records

@@ -69,7 +69,7 @@ tagOf-fields bytes plan component depth rank last p c d r l = rw (p, c, d, r, l)
 
 -- A tag has as many bytes as its figure says.
 pub length-tagBytes : (n : Numbers) → length (tagBytes n) ≡ tagLength
-unfolding tagBytes bytes16 tagLength fieldCount
+unfolding tagBytes bytes16
 length-tagBytes n = refl
 
 -- The bytes of a tag hold its numbers.
@@ -87,7 +87,7 @@ numbers-tagWith n = refl
 
 -- As many bytes as a tag has, written from the numbers that they hold, are the same bytes.
 pub tagBytes-tagOf : (bytes : List ℕ) → ((i : ℕ) → getD bytes i 0 < 256) → length bytes ≡ tagLength → tagBytes (numbers (tagOf bytes)) ≡ bytes
-unfolding tagBytes numbers tagOf field tagLength fieldCount
+unfolding tagBytes numbers tagOf field
 tagBytes-tagOf bytes small long =
     rw (two 0 (omega arith), two 2 (omega arith), two 4 (omega arith), two 6 (omega arith), two 8 (omega arith))
     (rw (joined 6 2, joined 4 4, joined 2 6, joined 0 8) (take-all 10 bytes (omega arith)))

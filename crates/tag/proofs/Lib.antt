@@ -3,11 +3,11 @@
 --   Reading  what each answer of a reading shows
 --   Writing  what each answer of a write shows, and that a written tag reads back
 --   TagFile  the part at a position of a tag file
---   Pairs    the answer from two tags by their readings, in either order, and the size of a count
+--   Pairing  the answer from two tags by their readings, in either order, and the size of a count
 --   Plan12   the paper's plan as tags, by computation
 pub mod Fields
 pub mod Reading
 pub mod Writing
 pub mod TagFile
-pub mod Pairs
+pub mod Pairing
 pub mod Plan12

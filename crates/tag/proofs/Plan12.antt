@@ -3,21 +3,21 @@
 -- Assumes nothing.
 use Prim.Native.Nat.{ℕ}
 use mathlib.Core.Path.{_≡_, refl}
-use mathlib.Core.List.{List, [], _∷_, _++_}
+use mathlib.Core.List.{List, [], _∷_, _++_, flatMap}
 use Rattle.interval_graph.specs.Numbers.{numbersOf}
 use Rattle.interval_graph.proofs.Plan12.{definitions, overlaps}
 use Rattle.wire.specs.LittleEndian.{le16, bytes16}
-use Rattle.wire.specs.Question.{question, firstNo}
-use Rattle.tag.specs.declared.pairing.PairAnswer.{PairAnswer}
-use Rattle.tag.specs.declared.pairing.PairAnswer.the-variants.{Handovers, NoChain, Refused}
-use Rattle.tag.specs.Fields.{fieldCount, tagLength, fieldLimit, field, tagOf, numbers, tagBytes, withinLimit}
+use Rattle.wire.specs.Question.{refusalBy, refusalFrom, question, from, positionQuestion, positionQuestions, firstNo}
+use Rattle.tag.specs.declared.pairs.PairAnswer.{PairAnswer}
+use Rattle.tag.specs.declared.pairs.PairAnswer.the-variants.{Handovers, NoChain, Refused}
+use Rattle.tag.specs.Fields.{field, tagOf, numbers, tagBytes, withinLimit}
 use Rattle.tag.specs.Reading.{readQuestions}
-use Rattle.tag.specs.TagFile.{tagFile, tagCount, lookupQuestions, lookupOf, partAt, lookupPart}
-use Rattle.tag.specs.Pairs.{agreeing, compareQuestions, pairQuestions, answerOf, pairOf}
+use Rattle.tag.specs.TagFile.{tagFile, tagCount, tagPart, tagFileQuestion, lookupQuestions, lookupOf, partAt, lookupPart}
+use Rattle.tag.specs.Pairing.{agreeing, compareQuestions, pairQuestions, answerOf, pairOf}
 
 -- What a computation on tags opens.
 unfoldable pub meaning : Unit {0}
-unfolding definitions le16 bytes16 question firstNo fieldCount tagLength fieldLimit field tagOf numbers tagBytes withinLimit readQuestions tagFile tagCount lookupQuestions lookupOf partAt lookupPart agreeing compareQuestions pairQuestions answerOf pairOf
+unfolding definitions le16 bytes16 question firstNo field tagOf numbers tagBytes withinLimit readQuestions tagFile tagCount tagPart tagFileQuestion positionQuestion positionQuestions from flatMap lookupQuestions lookupOf partAt lookupPart agreeing compareQuestions pairQuestions answerOf pairOf
 meaning = tt
 
 -- The tag file of the plan.
@@ -58,10 +58,10 @@ pub refusals : pairOf (lookupPart tags 7) (tag 12 2048 0 0 0)
     ∷ pairOf (tag 12 0 0 5 4) (tag 13 0 1 5 4)
     ∷ pairOf (tag 12 0 0 5 4) (tag 12 0 1 5 4)
     ∷ []
-    ≡ Refused (record { number = 9; input = 0; position = 0 })
-    ∷ Refused (record { number = 10; input = 1; position = 0 })
-    ∷ Refused (record { number = 11; input = 1; position = 0 })
-    ∷ Refused (record { number = 12; input = 1; position = 0 })
+    ≡ Refused (refusalBy 9)
+    ∷ Refused (refusalFrom 1 (refusalBy 10))
+    ∷ Refused (refusalFrom 1 (refusalBy 11))
+    ∷ Refused (refusalFrom 1 (refusalBy 12))
     ∷ []
 unfolding meaning tags tag
 refusals = refl

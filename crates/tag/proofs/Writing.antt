@@ -13,14 +13,14 @@ use Rattle.sequences.specs.Table.{overwritten}
 use Rattle.sequences.proofs.Table.{take-overwritten}
 use Rattle.interval_graph.specs.Numbers.{Numbers}
 use Rattle.wire.specs.declared.Refusal.{Refusal}
-use Rattle.wire.specs.LittleEndian.{bytes16, put16}
-use Rattle.wire.specs.Question.{Question, question, firstNo}
-use Rattle.wire.proofs.LittleEndian.{put16-overwritten}
-use Rattle.wire.proofs.Question.{accepts-yes}
-use Rattle.tag.specs.declared.tags.Tag.{Tag}
-use Rattle.tag.specs.declared.tags.TagRead.the-variants.{Valid}
+use Rattle.wire.specs.LittleEndian.{bytes16, placed}
+use Rattle.wire.specs.Question.{Question, refusalBy, question, roomQuestion, firstNo}
+use Rattle.wire.proofs.LittleEndian.{placed-overwritten}
+use Rattle.wire.proofs.Question.{first-all, all-member}
+use Rattle.tag.specs.declared.reader.Tag.{Tag}
+use Rattle.tag.specs.declared.reader.TagRead.the-variants.{Valid}
 use Rattle.tag.specs.declared.writer.WriteAnswer.the-variants.{Written, Refused}
-use Rattle.tag.specs.Fields.{fieldCount, tagLength, numbers, tagWith, tagBytes, withinLimit}
+use Rattle.tag.specs.Fields.{tagLength, numbers, tagWith, tagBytes, withinLimit}
 use Rattle.tag.specs.Reading.{readOf}
 use Rattle.tag.specs.Writing.{writeQuestions, writeOf, afterWrite}
 use Rattle.tag.proofs.Fields.{length-tagBytes, tagOf-tagBytes, numbers-tagWith, tagBytes-tagOf}
@@ -28,23 +28,23 @@ use Rattle.tag.proofs.Reading.{read-valid, valid-reads}
 
 module _ (n : Numbers) (out : List ℕ) where
   -- A table without room is refused by 8.
-  pub write-8 : length out < tagLength → Refused (record { number = 8; input = 0; position = 0 }) ≡ writeOf n out
-  unfolding writeOf writeQuestions firstNo question
+  pub write-8 : length out < tagLength → Refused (refusalBy 8) ≡ writeOf n out
+  unfolding writeOf writeQuestions roomQuestion firstNo question
   write-8 short = rw (lt-leb tagLength (length out) short)
 
   -- A field past the limit is refused by 10.
-  pub write-10 : tagLength ≤ length out → withinLimit n ≡ false → Refused (record { number = 10; input = 0; position = 0 }) ≡ writeOf n out
-  unfolding writeOf writeQuestions firstNo question
+  pub write-10 : tagLength ≤ length out → withinLimit n ≡ false → Refused (refusalBy 10) ≡ writeOf n out
+  unfolding writeOf writeQuestions roomQuestion firstNo question
   write-10 room over = rw (le-leb tagLength (length out) room, over)
 
   -- Else the tag is written.
   pub write-written : tagLength ≤ length out → withinLimit n ≡ true → Written ≡ writeOf n out
-  unfolding writeOf writeQuestions firstNo question
+  unfolding writeOf writeQuestions roomQuestion firstNo question
   write-written room within = rw (le-leb tagLength (length out) room, within)
 
   -- Five numbers of two bytes, written one behind the other, are the tag at the front.
-  pub put-front : (a b c d e : List ℕ) → tagLength ≤ length out → a ≡ put16 out 0 (n .plan) → b ≡ put16 a 2 (n .component) → c ≡ put16 b 4 (n .depth) → d ≡ put16 c 6 (n .rank) → e ≡ put16 d 8 (n .last) → e ≡ overwritten out (tagBytes n)
-  unfolding overwritten tagBytes bytes16 tagLength fieldCount
+  pub put-front : (a b c d e : List ℕ) → tagLength ≤ length out → a ≡ placed out 0 (bytes16 (n .plan)) → b ≡ placed a 2 (bytes16 (n .component)) → c ≡ placed b 4 (bytes16 (n .depth)) → d ≡ placed c 6 (bytes16 (n .rank)) → e ≡ placed d 8 (bytes16 (n .last)) → e ≡ overwritten out (tagBytes n)
+  unfolding overwritten tagBytes bytes16
   put-front a b c d e room plan component depth rank last =
       let first = bytes16 (n .plan) in
       let second = first ++ bytes16 (n .component) in
@@ -56,11 +56,11 @@ module _ (n : Numbers) (out : List ℕ) where
         depth,
         component,
         plan,
-        put16-overwritten out [] (n .plan) (omega arith),
-        put16-overwritten out first (n .component) (omega arith),
-        put16-overwritten out second (n .depth) (omega arith),
-        put16-overwritten out third (n .rank) (omega arith),
-        put16-overwritten out fourth (n .last) (omega arith),
+        placed-overwritten out [] (bytes16 (n .plan)) (omega arith),
+        placed-overwritten out first (bytes16 (n .component)) (omega arith),
+        placed-overwritten out second (bytes16 (n .depth)) (omega arith),
+        placed-overwritten out third (bytes16 (n .rank)) (omega arith),
+        placed-overwritten out fourth (bytes16 (n .last)) (omega arith),
       )
 
   -- A refusal leaves the table as it was.
@@ -75,7 +75,7 @@ pub record Fits (n : Numbers) (out : List ℕ) : Type 0 where
 
 -- A tag that is written shows both.
 pub written-fits : (n : Numbers) (out : List ℕ) → writeOf n out ≡ Written → Fits n out
-unfolding writeOf writeQuestions question
+unfolding writeOf writeQuestions roomQuestion question
 written-fits n out e =
     record {
       room = leb-true _ _ (asked _ (List·Memᴰ·head refl));
@@ -83,7 +83,9 @@ written-fits n out e =
     }
   where
     asked : (q : Question) → List·Memᴰ q (writeQuestions n out) → q .yes ≡ true
-    asked = accepts-yes (writeQuestions n out) Refused Written (λ r s. let z : _≡_ {A = ℕ} 0 1 = cc in omega arith) e
+    asked =
+        all-member (writeQuestions n out)
+        (first-all (writeQuestions n out) Refused Written (λ r s. let z : _≡_ {A = ℕ} 0 1 = cc in omega arith) e)
 
 -- The bytes of a tag within the limit read as that tag.
 pub tagBytes-read : (n : Numbers) → withinLimit n ≡ true → readOf (tagBytes n) ≡ Valid (tagWith n)

@@ -7,18 +7,18 @@ use mathlib.Core.List.{List, _++_}
 use lib.Dec.{leb}
 use Rattle.interval_graph.specs.Numbers.{Numbers}
 use Rattle.wire.specs.LittleEndian.{le16, bytes16}
-use Rattle.tag.specs.declared.tags.Tag.{Tag}
+use Rattle.tag.specs.declared.reader.Tag.{Tag}
 
 -- "Five numbers of two bytes"
-unfoldable pub fieldCount : ℕ
+abbrev pub fieldCount : ℕ
 fieldCount = 5
 
 -- "10 bytes"
-unfoldable pub tagLength : ℕ
+abbrev pub tagLength : ℕ
 tagLength = 2 * fieldCount
 
 -- "at most 2,047"
-unfoldable pub fieldLimit : ℕ
+abbrev pub fieldLimit : ℕ
 fieldLimit = 2047
 
 -- The field at an index, from 0, of a tag's bytes.

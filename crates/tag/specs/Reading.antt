@@ -5,23 +5,21 @@ use mathlib.Core.List.{List, [], _∷_}
 use lib.ListN.{length}
 use lib.Dec.{eqb}
 use Rattle.wire.specs.declared.Refusal.{Refusal}
-use Rattle.wire.specs.Question.{Question, question, firstNo}
-use Rattle.tag.specs.declared.tags.TagRead.{TagRead}
-use Rattle.tag.specs.declared.tags.TagRead.the-variants.{Valid, Refused}
+use Rattle.wire.specs.Question.{Question, refusalBy, refusalFrom, question, firstNo}
+use Rattle.tag.specs.declared.reader.TagRead.{TagRead}
+use Rattle.tag.specs.declared.reader.TagRead.the-variants.{Valid, Refused}
 use Rattle.tag.specs.Fields.{tagLength, tagOf, numbers, withinLimit}
 
--- Of a tag that is a call's first input (0) or its second (1):
 -- "9. Has the tag 10 bytes …?
 --  10. Is each field after the plan number at most 2,047?"
-unfoldable pub readQuestions : (input : ℕ) → List ℕ → List Question
-readQuestions input bytes =
-    question 9 input 0 (eqb (length bytes) tagLength) ∷ question 10 input 0 (withinLimit (numbers (tagOf bytes))) ∷ []
+unfoldable pub readQuestions : List ℕ → List Question
+readQuestions bytes = question 9 (eqb (length bytes) tagLength) ∷ question 10 (withinLimit (numbers (tagOf bytes))) ∷ []
 
 -- The reading of every byte string: the first "no" of an only or first tag, or the tag.
 unfoldable pub readOf : List ℕ → TagRead
-readOf bytes = firstNo (readQuestions 0 bytes) Refused (Valid (tagOf bytes))
+readOf bytes = firstNo (readQuestions bytes) Refused (Valid (tagOf bytes))
 
 -- The refusal of a reading, of the input named; zeros where the tag is valid.
 unfoldable pub refusalOf : TagRead → ℕ → Refusal
-refusalOf (Valid t) input = record { number = 0; input = 0; position = 0 }
-refusalOf (Refused r) input = record { number = r .number; input = input; position = r .position }
+refusalOf (Valid t) input = refusalBy 0
+refusalOf (Refused r) input = refusalFrom input r

@@ -3,10 +3,9 @@
 use mathlib.Core.List.{List, [], _∷_}
 use Prim.Native.Nat.{ℕ}
 use lib.ListN.{length}
-use lib.Dec.{leb}
 use Rattle.sequences.specs.Table.{overwritten}
 use Rattle.interval_graph.specs.Numbers.{Numbers}
-use Rattle.wire.specs.Question.{Question, question, firstNo}
+use Rattle.wire.specs.Question.{Question, question, roomQuestion, firstNo}
 use Rattle.tag.specs.declared.writer.WriteAnswer.{WriteAnswer}
 use Rattle.tag.specs.declared.writer.WriteAnswer.the-variants.{Written, Refused}
 use Rattle.tag.specs.Fields.{tagLength, tagBytes, withinLimit}
@@ -14,7 +13,7 @@ use Rattle.tag.specs.Fields.{tagLength, tagBytes, withinLimit}
 -- "8. Does each table hold what is to be written …?
 --  10. Is each field after the plan number at most 2,047?"
 unfoldable pub writeQuestions : Numbers → List ℕ → List Question
-writeQuestions n out = question 8 0 0 (leb tagLength (length out)) ∷ question 10 0 0 (withinLimit n) ∷ []
+writeQuestions n out = roomQuestion tagLength (length out) ∷ question 10 (withinLimit n) ∷ []
 
 -- The answer for every five numbers and every table.
 unfoldable pub writeOf : Numbers → List ℕ → WriteAnswer

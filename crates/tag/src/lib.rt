@@ -1,16 +1,17 @@
 // The reader's library: ten-byte tags read, written, looked up in a tag file and answered from. It knows no plan and
 // keeps no state.
-mod lookups;
-mod pairing;
-mod tags;
+mod pairs;
+mod reader;
+mod tag_file;
 mod writer;
 
-pub use lookups::LookupAnswer;
-pub use lookups::lookup;
-pub use lookups::lookup_refusal;
-pub use pairing::PairAnswer;
-pub use pairing::pair;
-pub use tags::Tag;
-pub use tags::TagRead;
+pub use pairs::PairAnswer;
+pub use pairs::pair;
+pub use pairs::pair_at;
+pub use reader::Tag;
+pub use reader::TagRead;
+pub use tag_file::LookupAnswer;
+pub use tag_file::lookup;
+pub use tag_file::lookup_refusal;
 pub use writer::WriteAnswer;
 pub use writer::write;

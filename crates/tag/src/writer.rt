@@ -1,7 +1,6 @@
 // A tag, written as its bytes: paper 01's questions 8 and 10.
-use crate::tags::Tag;
-use crate::tags::refused;
-use crate::tags::within_limit;
+use crate::reader::Tag;
+use crate::reader::within_limit;
 use wire::Refusal;
 ghost use mathlib.Core.Path.{_≡_};
 ghost use Prim.Native.Nat.{_≤_};
@@ -40,7 +39,7 @@ pub fn write(
     ensures { λ r. ⌜ now (out .exit) ≡ afterWrite r (record { plan = plan; component = component; depth = depth; rank = rank; last = last }) (now (out .entry)) ⌝ }
 {
     if out.len() < Tag::LENGTH {
-        return WriteAnswer::Refused(refused(8));
+        return WriteAnswer::Refused(Refusal::by(8));
     }
     let tag = Tag {
         plan,
@@ -50,7 +49,7 @@ pub fn write(
         last,
     };
     if !within_limit(tag) {
-        return WriteAnswer::Refused(refused(10));
+        return WriteAnswer::Refused(Refusal::by(10));
     }
     put(tag, out);
     WriteAnswer::Written

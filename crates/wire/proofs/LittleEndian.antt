@@ -1,19 +1,15 @@
--- Laws of the numbers in bytes: past the end, ranges, and the round trip of a two-byte number both ways.
+-- Laws of the numbers in bytes: past the end, ranges, bytes written over others, and the round trip both ways.
 -- Assumes nothing.
 use Prim.Native.Nat.{ℕ, suc, _+_, _*_, _/_, _%_, _≤_, _<_}
-use mathlib.Core.Bool.{true, false}
-use mathlib.Core.Path.{_≡_, refl, sym, ap, _∙_}
-use mathlib.Core.List.{List, [], _∷_, _++_}
+use mathlib.Core.Path.{_≡_, refl, sym}
+use mathlib.Core.List.{List, [], _∷_, _++_, append-assoc}
 use native.Mathlib.Omega.{arith}
 use native.Mathlib.Numerals.{add-one}
-use lib.ListN.{length, getD, set, take, drop, length-append, length-set, List·getD-eq-default}
-use lib.Seq.{getD-set-same, getD-set-other, set-getD, drop-cons}
-use lib.Dec.{leb}
+use lib.ListN.{length, getD, set, take, drop, take-append-drop, length-append, length-drop, List·getD-eq-default}
+use lib.Seq.{sets, sets-eq, take-at, drop-at, take-add, drop-drop, drop-append-add, length-take-le, drop-cons}
 use borrow.Author.Tests.{le-leb, lt-leb}
 use Rattle.sequences.specs.Table.{overwritten}
-use Rattle.sequences.proofs.Tests.{cond-cases}
-use Rattle.sequences.proofs.Table.{length-overwritten}
-use Rattle.wire.specs.LittleEndian.{le16, le32, bytes16, put16}
+use Rattle.wire.specs.LittleEndian.{le16, le32, bytes16, bytes32, placed}
 
 -- A number that begins past the end is 0.
 pub le16-past : (l : List ℕ) (at : ℕ) → length l ≤ at → le16 l at ≡ 0
@@ -40,47 +36,76 @@ pub le32-below : (l : List ℕ) (at : ℕ) → ((i : ℕ) → getD l i 0 < 256) 
 unfolding le32
 le32-below l at h = omega (arith, h at, h (at + 1), h (at + 2), h (at + 3))
 
--- Where the two bytes fit, both are written; where they do not, nothing is.
-pub put16-fits : (l : List ℕ) (at x : ℕ) → at + 2 ≤ length l → put16 l at x ≡ set (set l at (x % 256)) (at + 1) (x / 256)
-unfolding put16
-put16-fits l at x h = rw (le-leb (at + 2) (length l) h)
+-- Where the bytes fit, they are stored one behind the other; where they do not, nothing is.
+pub placed-fits : (l : List ℕ) (at : ℕ) (new : List ℕ) → at + length new ≤ length l → placed l at new ≡ sets l at new
+unfolding placed
+placed-fits l at new h = rw (le-leb (at + length new) (length l) h) (sym (sets-eq new l at h))
 
-pub put16-short : (l : List ℕ) (at x : ℕ) → length l < at + 2 → put16 l at x ≡ l
-unfolding put16
-put16-short l at x h = rw (lt-leb (at + 2) (length l) h)
+pub placed-short : (l : List ℕ) (at : ℕ) (new : List ℕ) → length l < at + length new → placed l at new ≡ l
+unfolding placed
+placed-short l at new h = rw (lt-leb (at + length new) (length l) h)
 
--- A number of two bytes that is written reads back as the same number.
-pub le16-bytes16 : (x : ℕ) → le16 (bytes16 x) 0 ≡ x
+-- A number's bytes, as the code stores them.
+module _ (l : List ℕ) (at x : ℕ) where
+  pub placed-two : at + 2 ≤ length l → placed l at (bytes16 x) ≡ set (set l at (x % 256)) (at + 1) (x / 256)
+  unfolding bytes16
+  placed-two h = rw (add-one at) (placed-fits l at (bytes16 x) h)
+
+  pub placed-four : at + 4 ≤ length l → placed l at (bytes32 x) ≡ set (set (set (set l at (x % 256)) (at + 1) (x / 256 % 256)) (at + 2) (x / 65536 % 256)) (at + 3) (x / 16777216)
+  unfolding bytes32
+  placed-four h =
+      let second : at + 1 ≡ suc at = omega arith in
+      let third : at + 2 ≡ suc (suc at) = omega arith in
+      let fourth : at + 3 ≡ suc (suc (suc at)) = omega arith in
+      rw (second, third, fourth) (placed-fits l at (bytes32 x) h)
+
+  -- Where they do not all fit nothing is written.
+  pub unplaced-two : length l < at + 2 → placed l at (bytes16 x) ≡ l
+  unfolding bytes16
+  unplaced-two h = placed-short l at (bytes16 x) h
+
+  pub unplaced-four : length l < at + 4 → placed l at (bytes32 x) ≡ l
+  unfolding bytes32
+  unplaced-four h = placed-short l at (bytes32 x) h
+
+-- The bytes that were written stand there.
+pub placed-there : (l : List ℕ) (at : ℕ) (new : List ℕ) → at + length new ≤ length l → take (length new) (drop at (placed l at new)) ≡ new
+unfolding placed
+placed-there l at new h =
+    rw (le-leb (at + length new) (length l) h, append-assoc, drop-at (take at l) (new ++ drop (at + length new) l) at (length-take-le at l (omega arith)))
+    (take-at new (drop (at + length new) l) (length new) refl)
+
+-- Bytes that stand there already change nothing.
+pub placed-same : (l : List ℕ) (at k : ℕ) → at + k ≤ length l → placed l at (take k (drop at l)) ≡ l
+unfolding placed
+placed-same l at k h =
+    let long : length (take k (drop at l)) ≡ k = length-take-le k (drop at l) (omega (arith, length-drop at l)) in
+    rw (long, le-leb (at + k) (length l) h, ← take-add at k l) (take-append-drop (at + k) l)
+
+-- Bytes that are written right behind what was written before: the turn of a pass that fills a table with numbers.
+pub placed-overwritten : (l new more : List ℕ) → length new + length more ≤ length l → placed (overwritten l new) (length new) more ≡ overwritten l (new ++ more)
+unfolding placed overwritten
+placed-overwritten l new more h =
+    let whole : length (new ++ drop (length new) l) ≡ length l = omega (arith, length-append new (drop (length new) l), length-drop (length new) l) in
+    rw (
+      whole,
+      le-leb (length new + length more) (length l) h,
+      take-at new (drop (length new) l) (length new) refl,
+      drop-append-add new (drop (length new) l) (length more),
+      drop-drop (length more) (length new) l,
+      length-append new more,
+    )
+
+-- A number that is written reads back as the same number, whatever stands behind it.
+pub le16-bytes16 : (x : ℕ) (rest : List ℕ) → le16 (bytes16 x ++ rest) 0 ≡ x
 unfolding le16 bytes16
-le16-bytes16 x = omega arith
+le16-bytes16 x rest = omega arith
 
-pub le16-put16 : (l : List ℕ) (at x : ℕ) → at + 2 ≤ length l → le16 (put16 l at x) at ≡ x
-unfolding le16
-le16-put16 l at x h =
-    rw (put16-fits l at x h)
-    (omega (
-      arith,
-      getD-set-other (set l at (x % 256)) (at + 1) at (x / 256) 0 (omega arith),
-      getD-set-same l at (x % 256) 0 (omega arith),
-      getD-set-same (set l at (x % 256)) (at + 1) (x / 256) 0 (omega (arith, length-set l at (x % 256))),
-    ))
+pub le32-bytes32 : (x : ℕ) (rest : List ℕ) → le32 (bytes32 x ++ rest) 0 ≡ x
+unfolding le32 bytes32
+le32-bytes32 x rest = omega arith
 
 -- Two bytes that are read are written back the same.
-pub bytes16-le16 : (a b : ℕ) → a < 256 → b < 256 → bytes16 (le16 (a ∷ b ∷ []) 0) ≡ a ∷ b ∷ []
-unfolding le16 bytes16
-bytes16-le16 a b ha hb =
-    let low : (a + 256 * b) % 256 ≡ a = omega arith in
-    let high : (a + 256 * b) / 256 ≡ b = omega arith in
-    rw (low, high)
-
-pub put16-le16 : (l : List ℕ) (at : ℕ) → ((i : ℕ) → getD l i 0 < 256) → put16 l at (le16 l at) ≡ l
-unfolding le16 put16
-put16-le16 l at bytes =
-    let low : (getD l at 0 + 256 * getD l (at + 1) 0) % 256 ≡ getD l at 0 = omega (arith, bytes at) in
-    let high : (getD l at 0 + 256 * getD l (at + 1) 0) / 256 ≡ getD l (at + 1) 0 = omega (arith, bytes at) in
-    rw (low, high, set-getD l at 0, set-getD l (at + 1) 0) (cond-cases (λ m. m ≡ l) (leb (at + 2) (length l)) (λ t. refl) (λ t. refl))
-
--- The two bytes of a number that is read are those that stand there.
 pub bytes16-at : (l : List ℕ) (at : ℕ) → ((i : ℕ) → getD l i 0 < 256) → at + 2 ≤ length l → bytes16 (le16 l at) ≡ take 2 (drop at l)
 unfolding le16 bytes16
 bytes16-at l at bytes h =
@@ -89,18 +114,3 @@ bytes16-at l at bytes h =
     let first : drop at l ≡ getD l at 0 ∷ drop (suc at) l = drop-cons l at 0 (omega arith) in
     let second : drop (suc at) l ≡ getD l (suc at) 0 ∷ drop (suc (suc at)) l = drop-cons l (suc at) 0 (omega arith) in
     rw (low, high, first, second, add-one at)
-
-set-two : (p : List ℕ) (a b y z : ℕ) (r : List ℕ) → set (set (p ++ (a ∷ b ∷ r)) (length p) y) (suc (length p)) z ≡ (p ++ (y ∷ z ∷ [])) ++ r
-set-two [] a b y z r = refl
-set-two (x ∷ p) a b y z r = ap (λ (l : List ℕ). x ∷ l) (set-two p a b y z r)
-
--- A number that is written right behind what was written before: the turn of a pass that fills a table with numbers.
-pub put16-overwritten : (l new : List ℕ) (x : ℕ) → length new + 2 ≤ length l → put16 (overwritten l new) (length new) x ≡ overwritten l (new ++ bytes16 x)
-unfolding overwritten bytes16
-put16-overwritten l new x h =
-    let at : ℕ = length new in
-    let first : drop at l ≡ getD l at 0 ∷ drop (suc at) l = drop-cons l at 0 (omega arith) in
-    let second : drop (suc at) l ≡ getD l (suc at) 0 ∷ drop (suc (suc at)) l = drop-cons l (suc at) 0 (omega arith) in
-    let behind : length (new ++ (x % 256 ∷ x / 256 ∷ [])) ≡ suc (suc at) = omega (arith, length-append new (x % 256 ∷ x / 256 ∷ [])) in
-    put16-fits (overwritten l new) at x (omega (arith, length-overwritten l new (omega arith)))
-    ∙ rw (behind, first, second, add-one at) (set-two new _ _ (x % 256) (x / 256) _)

@@ -1,9 +1,9 @@
 -- Paper 01: "Numbers are unsigned, lowest byte first." A byte past the end of the list counts as 0.
--- Vocabulary: le16, le32, bytes16, put16.
+-- Vocabulary: le16, le32, bytes16, bytes32, placed.
 use Prim.Native.Nat.{ℕ, _+_, _*_, _/_, _%_}
 use mathlib.Core.Bool.{cond}
-use mathlib.Core.List.{List, [], _∷_}
-use lib.ListN.{length, getD, set}
+use mathlib.Core.List.{List, [], _∷_, _++_}
+use lib.ListN.{length, getD, take, drop}
 use lib.Dec.{leb}
 
 -- The two-byte number at an index of a list of bytes.
@@ -19,6 +19,11 @@ le32 bytes at =
 unfoldable pub bytes16 : ℕ → List ℕ
 bytes16 x = x % 256 ∷ x / 256 ∷ []
 
--- A list of bytes with a two-byte number written at an index, or unchanged where the two bytes do not both fit.
-unfoldable pub put16 : List ℕ → ℕ → ℕ → List ℕ
-put16 bytes at x = cond (leb (at + 2) (length bytes)) (set (set bytes at (x % 256)) (at + 1) (x / 256)) bytes
+-- A number below 4,294,967,296 as four bytes.
+unfoldable pub bytes32 : ℕ → List ℕ
+bytes32 x = x % 256 ∷ x / 256 % 256 ∷ x / 65536 % 256 ∷ x / 16777216 ∷ []
+
+-- A list of bytes with others written over it from an index on, or unchanged where they do not all fit.
+unfoldable pub placed : List ℕ → ℕ → List ℕ → List ℕ
+placed bytes at new =
+    cond (leb (at + length new) (length bytes)) (take at bytes ++ new ++ drop (at + length new) bytes) bytes

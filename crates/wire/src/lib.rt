@@ -1,9 +1,12 @@
-// Numbers in bytes, lowest byte first, and the refusal that every call gives. A byte past the end of a slice is
-// read as 0, so that reading is total; whoever must tell a short slice from a long one asks for its length.
+// Numbers in bytes, lowest byte first, and the refusal that every call gives.
+mod numbers;
+
 ghost use mathlib.Core.Path.{_≡_};
-ghost use Prim.Native.Nat.{_+_, _*_};
-ghost use lib.ListN.{getD};
-ghost use Rattle.wire.specs.LittleEndian.{le16, le32, put16};
+ghost use Rattle.wire.specs.Question.{refusalBy, refusalFrom, refusalAbout, positionQuestions, askedOf};
+pub use numbers::read_u16;
+pub use numbers::read_u32;
+pub use numbers::write_u16;
+pub use numbers::write_u32;
 
 // A "no" to one of paper 01's questions: the question's number, which input is at fault (0 the first, 1 the second),
 // and the position of the window being read, or 0.
@@ -13,63 +16,56 @@ pub struct Refusal {
     pub position: u16,
 }
 
-fn byte_at(bytes: &[u8], at: usize) -> u8
-    ensures { λ r. ⌜ r ≡ getD (now (bytes .entry)) at 0 ⌝ }
-{
-    if at < bytes.len() { bytes[at] } else { 0 }
+// Questions asked in their order: the first "no", or that there is none.
+pub enum Asked {
+    Passed,
+    Refused(Refusal),
 }
 
-fn two_bytes(low: u8, high: u8) -> u16
-    ensures { λ r. ⌜ r ≡ low + 256 * high ⌝ }
-{
-    low as u16 + 256 * (high as u16)
+impl Refusal {
+    // The refusal by a question about the first input and no one window.
+    pub fn by(number: u8) -> Refusal
+        ensures { λ r. ⌜ r ≡ refusalBy number ⌝ }
+    {
+        Refusal {
+            number,
+            input: 0,
+            position: 0,
+        }
+    }
+
+    // The same question put to another input.
+    pub fn from(self, input: u8) -> Refusal
+        ensures { λ r. ⌜ r ≡ refusalFrom input self ⌝ }
+    {
+        Refusal {
+            number: self.number,
+            input,
+            position: self.position,
+        }
+    }
+
+    // The same question about the window at a position.
+    pub fn about(self, position: u16) -> Refusal
+        ensures { λ r. ⌜ r ≡ refusalAbout position self ⌝ }
+    {
+        Refusal {
+            number: self.number,
+            input: self.input,
+            position,
+        }
+    }
 }
 
-fn four_bytes(a: u8, b: u8, c: u8, d: u8) -> u32
-    ensures { λ r. ⌜ r ≡ a + 256 * b + 65536 * c + 16777216 * d ⌝ }
+// Question 7 of two named positions.
+pub fn ask_positions(first: usize, second: usize, windows: usize) -> Asked
+    ensures { λ r. ⌜ r ≡ askedOf (positionQuestions first second windows) ⌝ }
 {
-    a as u32 + 256 * (b as u32) + 65536 * (c as u32) + 16777216 * (d as u32)
-}
-
-// The two-byte number at `at`.
-pub fn read_u16(bytes: &[u8], at: usize) -> u16
-    ensures { λ r. ⌜ r ≡ le16 (now (bytes .entry)) at ⌝ }
-{
-    if bytes.len() <= at {
-        return 0;
+    if windows <= first {
+        return Asked::Refused(Refusal::by(7));
     }
-    two_bytes(bytes[at], byte_at(bytes, at + 1))
-}
-
-// The four-byte number at `at`.
-pub fn read_u32(bytes: &[u8], at: usize) -> u32
-    ensures { λ r. ⌜ r ≡ le32 (now (bytes .entry)) at ⌝ }
-{
-    if bytes.len() <= at {
-        return 0;
+    if windows <= second {
+        return Asked::Refused(Refusal::by(7).from(1));
     }
-    // Four bytes that are all there are read without asking for each.
-    if 3 < bytes.len() - at {
-        return four_bytes(bytes[at], bytes[at + 1], bytes[at + 2], bytes[at + 3]);
-    }
-    four_bytes(
-        bytes[at],
-        byte_at(bytes, at + 1),
-        byte_at(bytes, at + 2),
-        byte_at(bytes, at + 3),
-    )
-}
-
-// Writes a two-byte number at `at`, or nothing where its two bytes do not both fit.
-pub fn write_u16(out: &mut [u8], at: usize, value: u16)
-    ensures { λ _. ⌜ now (out .exit) ≡ put16 (now (out .entry)) at value ⌝ }
-{
-    if out.len() <= at {
-        return;
-    }
-    if out.len() - at < 2 {
-        return;
-    }
-    out[at] = (value % 256) as u8;
-    out[at + 1] = (value / 256) as u8;
+    Asked::Passed
 }

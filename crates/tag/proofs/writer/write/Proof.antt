@@ -10,36 +10,34 @@ use borrow.Author.Needs.{needs}
 use Rattle.tag.proofs.writer.write.Statement.{statement}
 use Rattle.tag.proofs.writer.write.Tie as tie
 
-refused-requires : tie.Need-refused-requires
-refused-requires c κs = search needs
+by-requires : tie.Need-by-requires
+by-requires c κs = search needs
 
 returns : tie.Need-returns
-unfolding tagLength fieldCount
-returns c = (ap Refused (c .refused .ensures) ∙ write-8 _ _ (c .before .if1 .taken), refused-after _ _ _)
+returns c = (ap Refused (c .by .ensures) ∙ write-8 _ _ (c .before .if1 .taken), refused-after _ _ _)
 
 within-limit-requires : tie.Need-within-limit-requires
 within-limit-requires c κs = search needs
 
-refused-requires-2 : tie.Need-refused-requires-2
-refused-requires-2 c κs = search needs
+by-requires-2 : tie.Need-by-requires-2
+by-requires-2 c κs = search needs
 
 returns-2 : tie.Need-returns-2
-unfolding tagLength fieldCount numbers
+unfolding numbers
 returns-2 c = (
-  ap Refused (c .refused2 .ensures)
+  ap Refused (c .by2 .ensures)
       ∙ write-10 _ _ (c .before .before .before .if1 .left) (sym (c .before .before .within-limit .ensures) ∙ not-true _ (c .before .if2 .taken)),
   refused-after _ _ _,
 )
 
 put-requires : tie.Need-put-requires
-unfolding tagLength fieldCount
 put-requires c κs = c .before .before .before .if1 .left
 
 same-length : tie.Need-same-length
 same-length c = search needs
 
 returns-3 : tie.Need-returns-3
-unfolding tagLength fieldCount numbers afterWrite
+unfolding numbers afterWrite
 returns-3 c = let d = c .before .before .before .before in (
   write-written _ _ (d .before .before .if1 .left) (sym (d .before .within-limit .ensures) ∙ not-false _ (d .if2 .left)),
   c .before .before .put .ensures,
@@ -49,10 +47,10 @@ pub write-spec : {M : Type 1} → statement M
 write-spec =
     tie.close
     (tie.spec
-    refused-requires
+    by-requires
     returns
     within-limit-requires
-    refused-requires-2
+    by-requires-2
     returns-2
     put-requires
     same-length

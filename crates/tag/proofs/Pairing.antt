@@ -1,0 +1,205 @@
+-- Laws of the answer from two tags: by their readings, by the numbers of two that are read, in either order, for a tag with
+-- itself, and how large a count can be; and for two positions of a tag file.
+-- Vocabulary: pair-*, compared-*, agreeing-*.
+-- Assumes nothing.
+use Prim.Native.Nat.{ℕ, _%_, _≤_, _<_}
+use mathlib.Core.Bool.{true, false}
+use mathlib.Core.Path.{_≡_, refl, sym, ap, _∙_}
+use mathlib.Core.List.{List, _++_, List·Memᴰ·head, List·Memᴰ·tail}
+use native.Mathlib.Omega.{arith}
+use lib.ListN.{length}
+use borrow.Author.Tests.{eq-eqb, ne-eqb}
+use Rattle.sequences.proofs.Tests.{eqb-symmetric}
+use Rattle.interval_graph.specs.Numbers.{Numbers, Outcome, apart, no-chain, equal, comesFirst, between, outcome}
+use Rattle.interval_graph.proofs.Outcome.{equal-refl, equal-symmetric, outcome-equal, outcome-components, outcome-first, outcome-second, outcome-symmetric, outcome-most}
+use Rattle.wire.specs.declared.Refusal.{Refusal}
+use Rattle.wire.specs.Question.{refusalBy, refusalFrom, question, from, firstNo, askedOf, positionQuestions}
+use Rattle.wire.proofs.Question.{first-append, first-from, answer-accepted, afterAsked, asked-first, first-all, all-member, all-from, append-left, append-right}
+use Rattle.tag.specs.declared.reader.Tag.{Tag}
+use Rattle.tag.specs.declared.reader.TagRead.the-variants as read
+use Rattle.tag.specs.declared.pairs.PairAnswer.{PairAnswer}
+use Rattle.tag.specs.declared.pairs.PairAnswer.the-variants.{Handovers, NoChain, Refused}
+use Rattle.tag.specs.Fields.{tagLength, fieldLimit, tagOf, numbers, tagWith, tagBytes, withinLimit}
+use Rattle.tag.specs.Reading.{readQuestions, readOf}
+use Rattle.tag.specs.TagFile.{tagFile, tagCount, tagPart, tagFileQuestion, lookupPart}
+use Rattle.tag.specs.Pairing.{agreeing, compareQuestions, pairQuestions, answerOf, comparedOf, pairOf, pairAtOf}
+use Rattle.tag.proofs.Fields.{Within, within-limit, numbers-tagWith}
+use Rattle.tag.proofs.Reading.{valid-reads, questions-valid, questions-refused}
+use Rattle.tag.proofs.Writing.{tagBytes-read}
+use Rattle.tag.proofs.TagFile.{tagFile-lookup}
+
+-- The answer from two byte strings, by their readings.
+module _ (first second : List ℕ) where
+  -- A reading speaks of a first input.
+  first-input : from 0 (readQuestions first) ≡ readQuestions first
+  unfolding readQuestions question from
+  first-input = refl
+
+  first-asked : (accepted : PairAnswer) → firstNo (readQuestions first) Refused accepted ≡ firstNo (readQuestions first) (λ r. Refused (refusalFrom 0 r)) accepted
+  first-asked accepted =
+      ap (λ qs. firstNo qs Refused accepted) (sym first-input) ∙ first-from 0 (readQuestions first) Refused accepted
+
+  -- The questions to the first tag, to the second, and to both.
+  questions-in-turn : pairOf first second ≡ firstNo (readQuestions first) (λ r. Refused (refusalFrom 0 r)) (firstNo (readQuestions second) (λ r. Refused (refusalFrom 1 r)) (comparedOf (numbers (tagOf first)) (numbers (tagOf second))))
+  unfolding pairOf pairQuestions comparedOf
+  questions-in-turn =
+      rw (first-append, first-from, first-append, first-from)
+      (first-asked _)
+
+  -- "A tag that is refused ends the pair call there, before the second tag is read": nothing is asked of the second.
+  pub pair-first-refused : (r : Refusal) → readOf first ≡ read.Refused r → pairOf first second ≡ Refused (refusalFrom 0 r)
+  pair-first-refused r e = questions-in-turn ∙ questions-refused first _ _ r e
+
+  -- A second tag that is refused after a first that is not.
+  pub pair-second-refused : (a : Tag) (r : Refusal) → readOf first ≡ read.Valid a → readOf second ≡ read.Refused r → pairOf first second ≡ Refused (refusalFrom 1 r)
+  pair-second-refused a r e g =
+      questions-in-turn ∙ (questions-valid first _ _ a e ∙ questions-refused second _ _ r g)
+
+  -- Two tags that are both read answer by their numbers.
+  pub pair-valid : (a b : Tag) → readOf first ≡ read.Valid a → readOf second ≡ read.Valid b → pairOf first second ≡ comparedOf (numbers a) (numbers b)
+  pair-valid a b e g =
+      questions-in-turn
+      ∙ (questions-valid first _ _ a e
+      ∙ (questions-valid second _ _ b g
+      ∙ rw (valid-reads first a e .holds, valid-reads second b g .holds)))
+
+-- The answer from the numbers of two tags, case by case.
+module _ (u v : Numbers) where
+  -- Tags of two plans are refused by 11.
+  pub compared-11 : (u .plan ≡ v .plan → ⊥) → Refused (refusalFrom 1 (refusalBy 11)) ≡ comparedOf u v
+  unfolding comparedOf compareQuestions from firstNo question
+  compared-11 other = rw (ne-eqb _ _ other)
+
+  -- Tags of one component and rank that differ elsewhere are refused by 12.
+  pub compared-12 : u .plan ≡ v .plan → agreeing u v ≡ false → Refused (refusalFrom 1 (refusalBy 12)) ≡ comparedOf u v
+  unfolding comparedOf compareQuestions from firstNo question
+  compared-12 one t = rw (eq-eqb _ _ one, t)
+
+  -- Else the rule answers.
+  pub compared-rule : u .plan ≡ v .plan → agreeing u v ≡ true → answerOf (outcome u v) ≡ comparedOf u v
+  unfolding comparedOf compareQuestions from firstNo question
+  compared-rule one t = rw (eq-eqb _ _ one, t)
+
+  -- Where both questions are answered "yes", the rule, case by case.
+  module _ (one : u .plan ≡ v .plan) (agree : agreeing u v ≡ true) where
+    -- "Equal tags give 0"
+    pub compared-equal : equal u v ≡ true → Handovers 0 ≡ comparedOf u v
+    unfolding answerOf
+    compared-equal s = sym (ap answerOf (outcome-equal u v s)) ∙ compared-rule one agree
+
+    -- "different components no chain"
+    pub compared-components : equal u v ≡ false → (u .component ≡ v .component → ⊥) → NoChain ≡ comparedOf u v
+    unfolding answerOf
+    compared-components s other = sym (ap answerOf (outcome-components u v s other)) ∙ compared-rule one agree
+
+    -- The count with u as the tag that comes first.
+    pub compared-first : equal u v ≡ false → u .component ≡ v .component → comesFirst u v ≡ true → Handovers (between u v) ≡ comparedOf u v
+    unfolding answerOf
+    compared-first s same f = sym (ap answerOf (outcome-first u v s same f)) ∙ compared-rule one agree
+
+    -- The count with v as the tag that comes first.
+    pub compared-second : equal u v ≡ false → u .component ≡ v .component → comesFirst u v ≡ false → Handovers (between v u) ≡ comparedOf u v
+    unfolding answerOf
+    compared-second s same f = sym (ap answerOf (outcome-second u v s same f)) ∙ compared-rule one agree
+
+  -- Question 12 is answered "yes" where the components differ.
+  pub agreeing-components : (u .component ≡ v .component → ⊥) → true ≡ agreeing u v
+  unfolding agreeing
+  agreeing-components other = rw (ne-eqb _ _ other)
+
+  -- So it is where the ranks do.
+  pub agreeing-ranks : u .component ≡ v .component → (u .rank ≡ v .rank → ⊥) → true ≡ agreeing u v
+  unfolding agreeing
+  agreeing-ranks one other = rw (eq-eqb _ _ one, ne-eqb _ _ other)
+
+  -- Else it asks whether the tags are equal.
+  pub agreeing-equal : u .component ≡ v .component → u .rank ≡ v .rank → equal u v ≡ agreeing u v
+  unfolding agreeing
+  agreeing-equal c r = rw (eq-eqb _ _ c, eq-eqb _ _ r)
+
+-- Question 12 does not depend on the order of the tags.
+pub agreeing-symmetric : (u v : Numbers) → agreeing u v ≡ agreeing v u
+unfolding agreeing
+agreeing-symmetric u v =
+    rw (eqb-symmetric (u .component) (v .component), eqb-symmetric (u .rank) (v .rank), equal-symmetric u v)
+
+-- Nor does the answer from two tags' numbers, a refusal by 11 or 12 included.
+pub compared-symmetric : (u v : Numbers) → comparedOf u v ≡ comparedOf v u
+unfolding comparedOf compareQuestions
+compared-symmetric u v =
+    rw (eqb-symmetric (u .plan) (v .plan), agreeing-symmetric u v, outcome-symmetric u v)
+
+-- Two byte strings that both read answer the same in either order, a refusal by 11 or 12 included.
+pub pair-symmetric : (first second : List ℕ) (a b : Tag) → readOf first ≡ read.Valid a → readOf second ≡ read.Valid b → pairOf first second ≡ pairOf second first
+pair-symmetric first second a b e g =
+    pair-valid first second a b e g ∙ (compared-symmetric (numbers a) (numbers b) ∙ sym (pair-valid second first b a g e))
+
+-- Where one of two is refused by 9 or 10, both orders are refused by that number, at the input where it stands. (Where both
+-- are, each order has the refusal of the one that it names first, by `pair-first-refused`; the two numbers may differ.)
+pub pair-one-refused : (first second : List ℕ) (r : Refusal) (b : Tag) → readOf first ≡ read.Refused r → readOf second ≡ read.Valid b → (pairOf first second ≡ Refused (refusalFrom 0 r)) × (pairOf second first ≡ Refused (refusalFrom 1 r))
+pair-one-refused first second r b e g = (pair-first-refused first second r e, pair-second-refused second first b r g e)
+
+-- The answer from the bytes of two tags within the limit is that from their numbers.
+pub pair-tagBytes : (u v : Numbers) → withinLimit u ≡ true → withinLimit v ≡ true → pairOf (tagBytes u) (tagBytes v) ≡ comparedOf u v
+pair-tagBytes u v hu hv =
+    pair-valid (tagBytes u) (tagBytes v) (tagWith u) (tagWith v) (tagBytes-read u hu) (tagBytes-read v hv)
+    ∙ rw (numbers-tagWith u, numbers-tagWith v)
+
+-- So is the answer from two tags that are looked up in a tag file.
+pub pair-tagFile : (f : ℕ → Numbers) (n u v : ℕ) → u < n → v < n → withinLimit (f u) ≡ true → withinLimit (f v) ≡ true → pairOf (lookupPart (tagFile f n) u) (lookupPart (tagFile f n) v) ≡ comparedOf (f u) (f v)
+pair-tagFile f n u v hu hv wu wv = rw (tagFile-lookup f n u hu, tagFile-lookup f n v hv) (pair-tagBytes (f u) (f v) wu wv)
+
+-- A tag that is read is 0 handovers from itself.
+pub pair-itself : (bytes : List ℕ) (t : Tag) → readOf bytes ≡ read.Valid t → pairOf bytes bytes ≡ Handovers 0
+unfolding answerOf
+pair-itself bytes t e =
+    pair-valid bytes bytes t t e e
+    ∙ (sym (compared-rule (numbers t) (numbers t) refl (sym (agreeing-equal (numbers t) (numbers t) refl refl) ∙ equal-refl (numbers t)))
+    ∙ ap answerOf (outcome-equal (numbers t) (numbers t) (equal-refl (numbers t))))
+
+-- A number of handovers is what the rule says of two tags within the limit.
+pub record Counted (u v : Numbers) (k : ℕ) : Type 0 where
+  pub first : Within u
+  pub second : Within v
+  pub count : outcome u v ≡ apart k
+
+refused-not-counted : (k : ℕ) (r : Refusal) → Refused r ≡ Handovers k → ⊥
+refused-not-counted k r e = let z : _≡_ {A = ℕ} 0 1 = cc in omega arith
+
+answer-counts : (o : Outcome) (k : ℕ) → answerOf o ≡ Handovers k → o ≡ apart k
+unfolding answerOf
+answer-counts (apart m) k e = let same : m ≡ k = cc in ap apart same
+answer-counts no-chain k e = let z : _≡_ {A = ℕ} 0 1 = cc in absurd (omega arith)
+
+-- A pair that is answered by a number shows all of that.
+pub pair-counted : (first second : List ℕ) (k : ℕ) → pairOf first second ≡ Handovers k → Counted (numbers (tagOf first)) (numbers (tagOf second)) k
+unfolding pairOf pairQuestions readQuestions question
+pair-counted first second k e =
+    let u = numbers (tagOf first) in
+    let v = numbers (tagOf second) in
+    let accepted : answerOf (outcome u v) ≡ Handovers k = answer-accepted (pairQuestions first second) Refused _ (Handovers k) (refused-not-counted k) e in
+    let passed = first-all (pairQuestions first second) Refused _ (λ r g. refused-not-counted k r (g ∙ accepted)) (e ∙ sym accepted) in
+    let later = readQuestions second ++ compareQuestions u v in
+    let rest = sym (all-from 1 later) ∙ append-right (readQuestions first) (from 1 later) passed in
+    record {
+      first = within-limit u (all-member (readQuestions first) (append-left (readQuestions first) (from 1 later) passed) _ (List·Memᴰ·tail (List·Memᴰ·head refl)));
+      second = within-limit v (all-member (readQuestions second) (append-left (readQuestions second) (compareQuestions u v) rest) _ (List·Memᴰ·tail (List·Memᴰ·head refl)));
+      count = answer-counts (outcome u v) k accepted;
+    }
+
+-- A count is at most two more than the limit of a field: 2,049, which two bytes hold.
+pub pair-most : (first second : List ℕ) (k : ℕ) → pairOf first second ≡ Handovers k → k ≤ 2049
+pair-most first second k e =
+    let h = pair-counted first second k e in
+    outcome-most _ _ fieldLimit k (h .first .depth) (h .second .depth) (h .count)
+
+-- The answer for two positions of a tag file: 9, 7, and then the two tags.
+module _ (tags : List ℕ) (first second : ℕ) where
+  pub pair-at-9 : (length tags % tagLength ≡ 0 → ⊥) → Refused (refusalBy 9) ≡ pairAtOf tags first second
+  unfolding pairAtOf tagFileQuestion firstNo question
+  pair-at-9 other = rw (ne-eqb (length tags % tagLength) 0 other)
+
+  pub pair-at-asked : length tags % tagLength ≡ 0 → pairAtOf tags first second ≡ afterAsked (askedOf (positionQuestions first second (tagCount tags))) Refused (pairOf (tagPart tags first) (tagPart tags second))
+  unfolding pairAtOf tagFileQuestion firstNo question
+  pair-at-asked whole =
+      rw (eq-eqb (length tags % tagLength) 0 whole) (asked-first (positionQuestions first second (tagCount tags)) Refused _)

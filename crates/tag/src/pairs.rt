@@ -1,0 +1,130 @@
+// The answer from two tags alone: how many handovers lie between their windows.
+use crate::reader::Tag;
+use crate::reader::TagRead;
+use crate::tag_file::part;
+use wire::Asked;
+use wire::Refusal;
+ghost use mathlib.Core.Path.{_≡_};
+ghost use mathlib.Core.Bool.{true};
+ghost use Prim.Native.Nat.{_≤_};
+ghost use Rattle.interval_graph.specs.Numbers.{comesFirst};
+ghost use Rattle.interval_graph.specs.Numbers as rule;
+ghost use Rattle.tag.specs.Fields.{numbers, withinLimit, fieldLimit};
+ghost use Rattle.tag.specs.Pairing.{agreeing, comparedOf, pairOf, pairAtOf};
+
+pub enum PairAnswer {
+    Handovers(u16),
+    NoChain,
+    Refused(Refusal),
+}
+
+// Whether two tags agree in all fields.
+fn same(u: Tag, v: Tag) -> bool
+    ensures { λ r. ⌜ r ≡ rule.equal (numbers u) (numbers v) ⌝ }
+{
+    if u.plan != v.plan {
+        return false;
+    }
+    if u.component != v.component {
+        return false;
+    }
+    if u.depth != v.depth {
+        return false;
+    }
+    if u.rank != v.rank {
+        return false;
+    }
+    u.last == v.last
+}
+
+// Question 12: in one component a rank belongs to one window.
+fn agree(u: Tag, v: Tag) -> bool
+    ensures { λ r. ⌜ r ≡ agreeing (numbers u) (numbers v) ⌝ }
+{
+    if u.component != v.component {
+        return true;
+    }
+    if u.rank != v.rank {
+        return true;
+    }
+    same(u, v)
+}
+
+// Whether u is the tag with smaller depth, or smaller rank at equal depth.
+fn comes_first(u: Tag, v: Tag) -> bool
+    ensures { λ r. ⌜ r ≡ comesFirst (numbers u) (numbers v) ⌝ }
+{
+    u.depth < v.depth || u.depth == v.depth && u.rank < v.rank
+}
+
+// The count for two windows of one component, u the one that comes first. A depth within the limit keeps it far from overflow.
+fn between(u: Tag, v: Tag) -> u16
+    requires { ⌜ u .depth ≤ v .depth ⌝ }
+    requires { ⌜ v .depth ≤ fieldLimit ⌝ }
+    ensures { λ r. ⌜ r ≡ rule.between (numbers u) (numbers v) ⌝ }
+{
+    let levels = v.depth - u.depth;
+    if u.rank < v.rank {
+        if v.rank <= u.last || u.last < u.rank {
+            return levels + 1;
+        }
+        return levels + 2;
+    }
+    if v.rank <= u.last && u.last < u.rank {
+        return levels;
+    }
+    levels + 1
+}
+
+// Questions 11 and 12, then the rule. "No chain" is said only once both are answered.
+fn compare(a: Tag, b: Tag) -> PairAnswer
+    requires { ⌜ withinLimit (numbers a) ≡ true ⌝ }
+    requires { ⌜ withinLimit (numbers b) ≡ true ⌝ }
+    ensures { λ r. ⌜ r ≡ comparedOf (numbers a) (numbers b) ⌝ }
+{
+    if a.plan != b.plan {
+        return PairAnswer::Refused(Refusal::by(11).from(1));
+    }
+    if !agree(a, b) {
+        return PairAnswer::Refused(Refusal::by(12).from(1));
+    }
+    if same(a, b) {
+        return PairAnswer::Handovers(0);
+    }
+    if a.component != b.component {
+        return PairAnswer::NoChain;
+    }
+    if comes_first(a, b) {
+        return PairAnswer::Handovers(between(a, b));
+    }
+    PairAnswer::Handovers(between(b, a))
+}
+
+// The answer from the bytes of two tags. The second is not read where the first is refused.
+pub fn pair(first: &[u8], second: &[u8]) -> PairAnswer
+    ensures { λ r. ⌜ r ≡ pairOf (now (first .entry)) (now (second .entry)) ⌝ }
+{
+    let first_read = Tag::read(first);
+    let TagRead::Valid(a) = first_read else {
+        return PairAnswer::Refused(Tag::refusal(first_read, 0));
+    };
+    let second_read = Tag::read(second);
+    let TagRead::Valid(b) = second_read else {
+        return PairAnswer::Refused(Tag::refusal(second_read, 1));
+    };
+    compare(a, b)
+}
+
+// The answer from the tags at two positions of a tag file.
+pub fn pair_at(tags: &[u8], first: usize, second: usize) -> PairAnswer
+    ensures { λ r. ⌜ r ≡ pairAtOf (now (tags .entry)) first second ⌝ }
+{
+    if tags.len() % Tag::LENGTH != 0 {
+        return PairAnswer::Refused(Refusal::by(9));
+    }
+    let asked = wire::ask_positions(first, second, tags.len() / Tag::LENGTH);
+    if let Asked::Refused(refusal) = asked {
+        return PairAnswer::Refused(refusal);
+    }
+    pair(part(tags, first), part(tags, second))
+}
