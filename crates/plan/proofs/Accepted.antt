@@ -1,72 +1,67 @@
--- What is known of an accepted plan: each of questions 1 to 6 is answered "yes", at every window.
--- Vocabulary: Sound, accepted-sound, offsets-sorted.
+-- What is known of an accepted plan: each of questions 1 to 6 is answered "yes", at every window. And the other way round.
+-- Vocabulary: Sound, accepted-sound, sound-accepted, accepted-validated, validated-accepted, offsets-sorted, part-within, end-fits.
 -- Assumes nothing.
 use Prim.Native.Nat.{ℕ, zero, suc, _+_, _-_, _≤_, _<_}
 use mathlib.Core.Bool.{Bool, true}
 use mathlib.Core.Path.{_≡_, refl, sym, _∙_}
-use mathlib.Core.Logic.{⊎-elim}
-use mathlib.Core.List.{List, [], _∷_, _++_, List·Memᴰ, List·Memᴰ·head, List·Memᴰ·tail, Memᴰ·append-left, Memᴰ·append-right}
+use mathlib.Core.List.{List, List·Memᴰ, List·Memᴰ·head, List·Memᴰ·tail}
 use native.Mathlib.Omega.{arith}
 use lib.ListN.{length}
 use lib.Dec.{leb, eqb}
-use borrow.Author.Tests.{leb-true, eqb-true}
-use Rattle.sequences.proofs.Tests.{lt-or-ge}
+use borrow.Author.Tests.{leb-true, eqb-true, le-leb, eq-eqb}
+use Rattle.sequences.proofs.Tests.{and-intro}
 use Rattle.wire.specs.declared.Refusal.{Refusal}
-use Rattle.wire.specs.Question.{Question, question, firstNo}
-use Rattle.wire.proofs.Question.{accepts-yes}
+use Rattle.wire.specs.Question.{Question, question, each, firstNo, allYes}
+use Rattle.wire.proofs.Question.{all-first, first-all, all-member, all-append, append-left, append-right, all-each, each-all}
 use Rattle.plan.specs.declared.windows.Window.{Window}
 use Rattle.plan.specs.declared.questions.Validation.{Validation}
 use Rattle.plan.specs.declared.questions.Validation.the-variants.{Accepted, Refused}
-use Rattle.plan.specs.File.{headerLength, fileLength, planNumber, windowCount, windowAt, endOf}
-use Rattle.plan.specs.Validation.{greatestCount, greatestEnd, offsetBefore, windowQuestions, fileQuestions, questionsFrom, planQuestions, validateOf, AcceptedPlan}
+use Rattle.plan.specs.File.{headerLength, windowLength, windowPlace, fileLength, planNumber, windowCount, windowAt, endOf}
+use Rattle.plan.specs.Validation.{greatestCount, greatestEnd, offsetBefore, windowQuestions, fileQuestions, planQuestions, AcceptedPlan, validateOf}
+use Rattle.plan.proofs.Validation.{windowsAsked}
 
-pub record Sound (file : List ℕ) : Type 0 where
-  pub few : windowCount file ≤ 2048
-  pub whole : length file ≡ fileLength (windowCount file)
-  pub long : (v : ℕ) → v < windowCount file → 1 ≤ windowAt file v .length
-  pub early : (v : ℕ) → v < windowCount file → endOf (windowAt file v) ≤ 10000000
-  pub sorted : (v : ℕ) → v < windowCount file → offsetBefore file v ≤ windowAt file v .offset
-
+-- Acceptance is what `validate` answers.
 refused-not-accepted : (plan n : ℕ) (r : Refusal) → Refused r ≡ Accepted plan n → ⊥
 refused-not-accepted plan n r e = let z : _≡_ {A = ℕ} 0 1 = cc in omega arith
 
--- The questions of the window at u are among those of the k windows from v on.
-window-asked : (input : ℕ) (file : List ℕ) (q : Question) (u v k : ℕ) → v ≤ u → u < v + k → List·Memᴰ q (windowQuestions input u (offsetBefore file u) (windowAt file u)) → List·Memᴰ q (questionsFrom input file v k)
-unfolding questionsFrom
-window-asked input file q u v zero le lt m = absurd (omega arith)
-window-asked input file q u v (suc k) le lt m =
-    ⊎-elim
-    (λ h. Memᴰ·append-right (windowQuestions input v (offsetBefore file v) (windowAt file v)) (window-asked input file q u (suc v) k h (omega arith) m))
-    (λ h. let e : u ≡ v = omega arith in Memᴰ·append-left (questionsFrom input file (suc v) k) (rw e at m))
-    (lt-or-ge v u)
-
--- Every question of an accepted plan is answered "yes".
-asked-yes : (file : List ℕ) → AcceptedPlan file → (q : Question) → List·Memᴰ q (planQuestions 0 file) → q .yes ≡ true
+pub accepted-validated : (file : List ℕ) → AcceptedPlan file → validateOf file ≡ Accepted (planNumber file) (windowCount file)
 unfolding validateOf
-asked-yes file ok q m = accepts-yes (planQuestions 0 file) Refused _ (refused-not-accepted (planNumber file) (windowCount file)) ok q m
+accepted-validated file ok = all-first (planQuestions file) Refused _ ok
+
+pub validated-accepted : (file : List ℕ) → validateOf file ≡ Accepted (planNumber file) (windowCount file) → AcceptedPlan file
+unfolding validateOf
+validated-accepted file e =
+    first-all (planQuestions file) Refused _ (refused-not-accepted (planNumber file) (windowCount file)) e
+
+pub record Sound (file : List ℕ) : Type 0 where
+  pub few : windowCount file ≤ greatestCount
+  pub whole : length file ≡ fileLength (windowCount file)
+  pub long : (v : ℕ) → v < windowCount file → 1 ≤ windowAt file v .length
+  pub early : (v : ℕ) → v < windowCount file → endOf (windowAt file v) ≤ greatestEnd
+  pub sorted : (v : ℕ) → v < windowCount file → offsetBefore file v ≤ windowAt file v .offset
 
 pub accepted-sound : (file : List ℕ) → AcceptedPlan file → Sound file
-unfolding planQuestions fileQuestions windowQuestions question greatestCount greatestEnd
+unfolding planQuestions fileQuestions windowQuestions question
 accepted-sound file ok =
+    let windows = each (windowsAsked file) 0 (windowCount file) in
+    let whole = all-member (fileQuestions file) (append-left (fileQuestions file) windows ok) in
+    let at : (v : ℕ) → v < windowCount file → (q : Question) → List·Memᴰ q (windowsAsked file v) → q .yes ≡ true = λ v h. all-member (windowsAsked file v) (all-each (windowsAsked file) 0 (windowCount file) (append-right (fileQuestions file) windows ok) v (omega arith) (omega arith)) in
     record {
-      few = leb-true _ _ (asked-yes file ok _ (Memᴰ·append-left (questionsFrom 0 file 0 n) second));
-      whole = eqb-true _ _ (asked-yes file ok _ (Memᴰ·append-left (questionsFrom 0 file 0 n) third));
-      long = λ v h. leb-true _ _ (asked-yes file ok _ (at-window v h (List·Memᴰ·head refl)));
-      early = λ v h. leb-true _ _ (asked-yes file ok _ (at-window v h (List·Memᴰ·tail (List·Memᴰ·head refl))));
-      sorted = λ v h. leb-true _ _ (asked-yes file ok _ (at-window v h (List·Memᴰ·tail (List·Memᴰ·tail (List·Memᴰ·head refl)))));
+      few = leb-true _ _ (whole _ (List·Memᴰ·tail (List·Memᴰ·head refl)));
+      whole = eqb-true _ _ (whole _ (List·Memᴰ·tail (List·Memᴰ·tail (List·Memᴰ·head refl))));
+      long = λ v h. leb-true _ _ (at v h _ (List·Memᴰ·head refl));
+      early = λ v h. leb-true _ _ (at v h _ (List·Memᴰ·tail (List·Memᴰ·head refl)));
+      sorted = λ v h. leb-true _ _ (at v h _ (List·Memᴰ·tail (List·Memᴰ·tail (List·Memᴰ·head refl))));
     }
-  where
-    n : ℕ
-    n = windowCount file
 
-    second : List·Memᴰ (question 2 0 0 (leb (windowCount file) greatestCount)) (fileQuestions 0 file)
-    second = List·Memᴰ·tail (List·Memᴰ·head refl)
-
-    third : List·Memᴰ (question 3 0 0 (eqb (length file) (fileLength (windowCount file)))) (fileQuestions 0 file)
-    third = List·Memᴰ·tail (List·Memᴰ·tail (List·Memᴰ·head refl))
-
-    at-window : (v : ℕ) → v < n → {q : Question} → List·Memᴰ q (windowQuestions 0 v (offsetBefore file v) (windowAt file v)) → List·Memᴰ q (planQuestions 0 file)
-    at-window v h {q} m = Memᴰ·append-right (fileQuestions 0 file) (window-asked 0 file q v 0 n (omega arith) (omega arith) m)
+pub sound-accepted : (file : List ℕ) → Sound file → AcceptedPlan file
+unfolding planQuestions fileQuestions windowQuestions question allYes
+sound-accepted file s =
+    all-append (fileQuestions file) (each (windowsAsked file) 0 (windowCount file))
+    ∙ and-intro (allYes (fileQuestions file)) _
+    (rw (le-leb headerLength (length file) (omega (arith, s .whole)), le-leb (windowCount file) greatestCount (s .few), eq-eqb (length file) (fileLength (windowCount file)) (s .whole)))
+    (each-all (windowsAsked file) 0 (windowCount file)
+    (λ v l h. rw (le-leb 1 (windowAt file v .length) (s .long v (omega arith)), le-leb (endOf (windowAt file v)) greatestEnd (s .early v (omega arith)), le-leb (offsetBefore file v) (windowAt file v .offset) (s .sorted v (omega arith)))))
 
 offsets-rise : (file : List ℕ) → Sound file → (u k : ℕ) → u + k < windowCount file → windowAt file u .offset ≤ windowAt file (u + k) .offset
 unfolding offsetBefore
@@ -80,3 +75,11 @@ pub offsets-sorted : (file : List ℕ) → Sound file → (u v : ℕ) → u ≤ 
 offsets-sorted file s u v le h =
     let e : u + (v - u) ≡ v = omega arith in
     rw e at (offsets-rise file s u (v - u) (omega arith))
+
+-- The part of each window lies within the file.
+pub part-within : (file : List ℕ) → Sound file → (v : ℕ) → v < windowCount file → windowPlace v + windowLength ≤ length file
+part-within file s v h = omega (arith, s .whole)
+
+-- An end fits 32 bits, so its sum does not overflow there.
+pub end-fits : (file : List ℕ) → Sound file → (v : ℕ) → v < windowCount file → endOf (windowAt file v) < 4294967296
+end-fits file s v h = omega (arith, s .early v h)

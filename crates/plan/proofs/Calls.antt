@@ -7,12 +7,13 @@ use mathlib.Core.Logic.{⊎-elim}
 use mathlib.Core.List.{List, [], _∷_, _++_}
 use native.Mathlib.Omega.{arith}
 use Rattle.wire.specs.declared.Refusal.{Refusal}
-use Rattle.wire.specs.Question.{Question, firstNo}
-use Rattle.wire.proofs.Question.{first-yes, first-no, first-append, first-map, first-cases}
+use Rattle.wire.specs.Question.{Question, refusalFrom, from, firstNo}
+use Rattle.wire.proofs.Question.{first-yes, first-no, first-append, first-from, first-map, first-cases}
 use Rattle.plan.specs.declared.questions.Validation.{Validation}
 use Rattle.plan.specs.declared.questions.Validation.the-variants.{Accepted, Refused}
 use Rattle.plan.specs.File.{planNumber, windowCount}
 use Rattle.plan.specs.Validation.{planQuestions, validateOf, AcceptedPlan}
+use Rattle.plan.proofs.Accepted.{validated-accepted}
 
 -- What a call answers after a validation: its refusal, or what is asked next.
 abbrev pub afterValidation : {A : Type 0} → Validation → (Refusal → A) → A → A
@@ -20,40 +21,47 @@ afterValidation (Accepted plan windows) refused next = next
 afterValidation (Refused refusal) refused next = refused refusal
 
 -- The questions of a plan, and then others: the validation's answer, and then theirs.
-pub plan-first : {A : Type 0} (file : List ℕ) (more : List Question) (refused : Refusal → A) (accepted : A) → firstNo (planQuestions 0 file ++ more) refused accepted ≡ afterValidation (validateOf file) refused (firstNo more refused accepted)
+pub plan-first : {A : Type 0} (file : List ℕ) (more : List Question) (refused : Refusal → A) (accepted : A) → firstNo (planQuestions file ++ more) refused accepted ≡ afterValidation (validateOf file) refused (firstNo more refused accepted)
 unfolding validateOf
 plan-first file more refused accepted =
-    first-append (planQuestions 0 file) more refused accepted
-    ∙ sym (first-map (λ v. afterValidation v refused (firstNo more refused accepted)) (planQuestions 0 file) Refused (Accepted (planNumber file) (windowCount file)))
+    first-append (planQuestions file) more refused accepted
+    ∙ sym (first-map (λ v. afterValidation v refused (firstNo more refused accepted)) (planQuestions file) Refused (Accepted (planNumber file) (windowCount file)))
 
 -- A validation that is accepted is so with the file's own numbers.
 pub accepted-numbers : (file : List ℕ) (plan windows : ℕ) → Accepted plan windows ≡ validateOf file → (plan ≡ planNumber file) × (windows ≡ windowCount file)
 unfolding validateOf
 accepted-numbers file plan windows e =
     ⊎-elim (λ same. (cc, cc)) (λ refusal. let z : _≡_ {A = ℕ} 0 1 = cc in absurd (omega arith))
-    (first-cases (planQuestions 0 file) Refused (Accepted (planNumber file) (windowCount file)))
+    (first-cases (planQuestions file) Refused (Accepted (planNumber file) (windowCount file)))
 
 -- So the file is that of an accepted plan.
 pub accepted-plan : (file : List ℕ) (plan windows : ℕ) → Accepted plan windows ≡ validateOf file → AcceptedPlan file
 accepted-plan file plan windows e =
     let numbers = accepted-numbers file plan windows e in
-    sym e ∙ cc
+    validated-accepted file (sym e ∙ cc)
 
 -- The answer of a call that validates first and then asks more, by what the validation answered.
 module _ {A : Type 0} (file : List ℕ) (more : List Question) (refused : Refusal → A) (accepted : A) (answer : Validation) (validated : answer ≡ validateOf file) where
-  pub plan-refused : (refusal : Refusal) → answer ≡ Refused refusal → refused refusal ≡ firstNo (planQuestions 0 file ++ more) refused accepted
+  pub plan-refused : (refusal : Refusal) → answer ≡ Refused refusal → refused refusal ≡ firstNo (planQuestions file ++ more) refused accepted
   plan-refused refusal e = sym (plan-first file more refused accepted ∙ rw (← validated, e))
 
-  pub plan-accepted : (plan windows : ℕ) → answer ≡ Accepted plan windows → firstNo more refused accepted ≡ firstNo (planQuestions 0 file ++ more) refused accepted
+  pub plan-accepted : (plan windows : ℕ) → answer ≡ Accepted plan windows → firstNo more refused accepted ≡ firstNo (planQuestions file ++ more) refused accepted
   plan-accepted plan windows e = sym (plan-first file more refused accepted ∙ rw (← validated, e))
 
 -- The same where one question more is asked.
 module _ {A : Type 0} (file : List ℕ) (q : Question) (refused : Refusal → A) (accepted : A) (answer : Validation) (validated : answer ≡ validateOf file) (plan windows : ℕ) (e : answer ≡ Accepted plan windows) where
-  pub one-more-no : q .yes ≡ false → refused (q .refusal) ≡ firstNo (planQuestions 0 file ++ (q ∷ [])) refused accepted
+  pub one-more-no : q .yes ≡ false → refused (q .refusal) ≡ firstNo (planQuestions file ++ (q ∷ [])) refused accepted
   one-more-no t =
       sym (first-no [] refused accepted q t) ∙ plan-accepted file (q ∷ []) refused accepted answer validated plan windows e
 
-  pub one-more-yes : q .yes ≡ true → accepted ≡ firstNo (planQuestions 0 file ++ (q ∷ [])) refused accepted
+  pub one-more-yes : q .yes ≡ true → accepted ≡ firstNo (planQuestions file ++ (q ∷ [])) refused accepted
   unfolding firstNo
   one-more-yes t =
       sym (first-yes [] refused accepted q t) ∙ plan-accepted file (q ∷ []) refused accepted answer validated plan windows e
+
+-- The questions to a call's second file are answered by its validation, with the second input at fault.
+pub plan-second : {A : Type 0} (file : List ℕ) (refused : Refusal → A) (accepted : A) → firstNo (from 1 (planQuestions file)) refused accepted ≡ afterValidation (validateOf file) (λ r. refused (refusalFrom 1 r)) accepted
+unfolding validateOf
+plan-second file refused accepted =
+    first-from 1 (planQuestions file) refused accepted
+    ∙ sym (first-map (λ v. afterValidation v (λ r. refused (refusalFrom 1 r)) accepted) (planQuestions file) Refused (Accepted (planNumber file) (windowCount file)))

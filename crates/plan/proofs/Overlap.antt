@@ -1,7 +1,7 @@
 -- Laws of overlap. `sharedMinutes` is the smaller end less the greater offset; two windows overlap exactly if some minute is
--- covered by both; in an accepted plan, for u before v, exactly if the end of u is greater than the offset of v; and the
+-- covered by both; in an accepted plan, for u before v, exactly if v begins before the bound of u, which is its end; and the
 -- overlap of an accepted plan is in interval order, which is all that the theory of `interval_graph` asks.
--- Vocabulary: covers-minute, shared-minutes, overlaps-shares, overlaps-end, touching-apart, interval-order.
+-- Vocabulary: covers-minute, shared-minutes, overlaps-shares, overlaps-bound, overlaps-end, touching-apart, interval-order.
 -- Assumes nothing.
 use Prim.Native.Nat.{ℕ, zero, suc, _+_, _-_, _≤_, _<_, min, max}
 use mathlib.Core.Bool.{Bool, true, false, not, _&&_}
@@ -17,7 +17,7 @@ use Rattle.sequences.proofs.Tests.{tests, truth, lt-or-ge, and-left, and-right,
 use Rattle.interval_graph.specs.Order.{IntervalOrder}
 use Rattle.plan.specs.declared.windows.Window.{Window}
 use Rattle.plan.specs.File.{windowCount, windowAt, endOf}
-use Rattle.plan.specs.Overlap.{covers, sharedMinutes, minimumHandover, overlaps}
+use Rattle.plan.specs.Overlap.{covers, sharedMinutes, minimumHandover, overlaps, boundOf}
 use Rattle.plan.specs.Validation.{AcceptedPlan}
 use Rattle.plan.proofs.Accepted.{Sound, accepted-sound, offsets-sorted}
 
@@ -59,7 +59,6 @@ minimum-overlaps file u v other h = rw (ne-eqb u v other) (le-leb _ _ h)
 
 -- Two windows overlap exactly if they are two and some minute is covered by both.
 pub overlaps-shares : (file : List ℕ) (u v : ℕ) → (overlaps file u v ≡ true) ↔ ((u ≢ v) × ((m : ℕ) × (covers (windowAt file u) m ≡ true) × (covers (windowAt file v) m ≡ true)))
-unfolding minimumHandover
 overlaps-shares file u v = (shares, meet)
   where
     a : Window
@@ -85,14 +84,14 @@ overlaps-shares file u v = (shares, meet)
         minimum-overlaps file u v (h .0)
         (omega (arith, shared-minutes a b, covers-minute a (h .1 .0) (h .1 .1), covers-minute b (h .1 .0) (h .1 .2)))
 
--- "For u before v this means: end of u is greater than offset of v", in an accepted plan.
-pub overlaps-end : (file : List ℕ) → AcceptedPlan file → (u v : ℕ) → u < v → v < windowCount file → overlaps file u v ≡ ltb (windowAt file v .offset) (endOf (windowAt file u))
-unfolding minimumHandover endOf
-overlaps-end file ok u v before within =
-    iff-equal (overlaps file u v) (ltb (b .offset) (endOf a))
-    (λ t. lt-ltb (b .offset) (endOf a) (omega (arith, overlaps-minimum file u v t .1, shared-minutes a b)))
+-- In an accepted plan, for u before v: v begins before the bound of u.
+pub overlaps-bound : (file : List ℕ) → AcceptedPlan file → (u v : ℕ) → u < v → v < windowCount file → overlaps file u v ≡ ltb (windowAt file v .offset) (boundOf (windowAt file u))
+unfolding boundOf endOf
+overlaps-bound file ok u v before within =
+    iff-equal (overlaps file u v) (ltb (b .offset) (boundOf a))
+    (λ t. lt-ltb (b .offset) (boundOf a) (omega (arith, overlaps-minimum file u v t .1, shared-minutes a b)))
     (λ t. minimum-overlaps file u v (omega arith)
-    (omega (arith, ltb-true (b .offset) (endOf a) t, shared-minutes a b, s .long u (omega arith), s .long v within, sorted)))
+    (omega (arith, ltb-true (b .offset) (boundOf a) t, shared-minutes a b, s .long u (omega arith), s .long v within, sorted)))
   where
     a : Window
     a = windowAt file u
@@ -106,9 +105,15 @@ overlaps-end file ok u v before within =
     sorted : a .offset ≤ b .offset
     sorted = offsets-sorted file s u v (omega arith) within
 
+-- "For u before v this means: end of u is greater than offset of v", in an accepted plan.
+pub overlaps-end : (file : List ℕ) → AcceptedPlan file → (u v : ℕ) → u < v → v < windowCount file → overlaps file u v ≡ ltb (windowAt file v .offset) (endOf (windowAt file u))
+unfolding boundOf
+overlaps-end file ok u v before within =
+    let e : boundOf (windowAt file u) ≡ endOf (windowAt file u) = omega arith in
+    overlaps-bound file ok u v before within ∙ rw e
+
 -- Windows that touch do not overlap: end of u equal to offset of v is no minute shared.
 pub touching-apart : (file : List ℕ) (u v : ℕ) → endOf (windowAt file u) ≡ windowAt file v .offset → overlaps file u v ≡ false
-unfolding minimumHandover
 touching-apart file u v e =
     ⊎-elim (λ t. absurd (omega (arith, overlaps-minimum file u v t .1, shared-minutes (windowAt file u) (windowAt file v)))) (λ t. t)
     (truth (overlaps file u v))
@@ -120,9 +125,9 @@ interval-order file ok =
       symmetric = λ u v. iff-equal _ _ (turned u v) (turned v u);
       irreflexive = λ v. ⊎-elim (λ t. absurd (overlaps-minimum file v v t .0 refl)) (λ t. t) (truth (overlaps file v v));
       between = λ u v w uv vw wn t.
-          let far : windowAt file w .offset < endOf (windowAt file u) = ltb-true _ _ (sym (overlaps-end file ok u w (omega arith) wn) ∙ t) in
-          overlaps-end file ok u v uv (omega arith)
-          ∙ lt-ltb (windowAt file v .offset) (endOf (windowAt file u)) (omega (arith, offsets-sorted file (accepted-sound file ok) v w (omega arith) wn));
+          let far : windowAt file w .offset < boundOf (windowAt file u) = ltb-true _ _ (sym (overlaps-bound file ok u w (omega arith) wn) ∙ t) in
+          overlaps-bound file ok u v uv (omega arith)
+          ∙ lt-ltb (windowAt file v .offset) (boundOf (windowAt file u)) (omega (arith, offsets-sorted file (accepted-sound file ok) v w (omega arith) wn));
     }
   where
     turned : (u v : ℕ) → overlaps file u v ≡ true → overlaps file v u ≡ true

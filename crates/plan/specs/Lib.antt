@@ -1,5 +1,5 @@
 -- What a plan file is, when it is refused, and when two of its windows overlap. In reading order:
---   File        plan number, windows, their offsets, lengths and ends
+--   File        plan number, windows, their offsets, lengths and ends; the file of a list of windows
 --   Overlap     the minutes that windows cover and share, and overlap
 --   Validation  questions 1 to 6
 pub mod File

@@ -1,7 +1,7 @@
 -- Paper 01: "the window covers the minutes from its offset up to, not including, its end", and "Two different windows
 -- overlap when they share a minute."
--- Vocabulary: covers, sharedMinutes, minimumHandover, overlaps.
-use Prim.Native.Nat.{ℕ, max}
+-- Vocabulary: covers, sharedMinutes, minimumHandover, overlaps; boundOf.
+use Prim.Native.Nat.{ℕ, _-_, max}
 use mathlib.Core.Bool.{Bool, not, _&&_}
 use mathlib.Core.List.{List}
 use lib.Dec.{ltb, leb, eqb}
@@ -17,9 +17,14 @@ unfoldable pub sharedMinutes : Window → Window → ℕ
 sharedMinutes u v = count (λ minute. covers u minute && covers v minute) (max (endOf u) (endOf v))
 
 -- How many minutes two windows must share to overlap.
-unfoldable pub minimumHandover : ℕ
+abbrev pub minimumHandover : ℕ
 minimumHandover = 1
 
 -- The windows of a file at two different positions share at least that many minutes.
 unfoldable pub overlaps : List ℕ → ℕ → ℕ → Bool
 overlaps file u v = not (eqb u v) && leb minimumHandover (sharedMinutes (windowAt file u) (windowAt file v))
+
+-- Where a later window must begin before, to share enough minutes with this one. (Nothing here has to be believed: that it says
+-- overlap is a law.)
+unfoldable pub boundOf : Window → ℕ
+boundOf w = endOf w - (minimumHandover - 1)

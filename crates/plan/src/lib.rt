@@ -1,9 +1,16 @@
-// The plan file: its windows, and whether it is accepted.
+// The plan file: its windows read and written, and whether it is accepted.
+mod figures;
 mod questions;
 mod windows;
 
+pub use figures::GREATEST_COUNT;
+pub use figures::GREATEST_END;
+pub use figures::HEADER_LENGTH;
+pub use figures::WINDOW_LENGTH;
 pub use questions::Validation;
 pub use questions::validate;
 pub use windows::Window;
 pub use windows::read_window;
+pub use windows::window_bound;
 pub use windows::window_end;
+pub use windows::write_window;

@@ -1,12 +1,12 @@
 -- Laws of the numbers in bytes: past the end, ranges, bytes written over others, and the round trip both ways.
 -- Assumes nothing.
 use Prim.Native.Nat.{ℕ, suc, _+_, _*_, _/_, _%_, _≤_, _<_}
-use mathlib.Core.Path.{_≡_, refl, sym}
+use mathlib.Core.Path.{_≡_, refl, sym, _∙_}
 use mathlib.Core.List.{List, [], _∷_, _++_, append-assoc}
 use native.Mathlib.Omega.{arith}
 use native.Mathlib.Numerals.{add-one}
 use lib.ListN.{length, getD, set, take, drop, take-append-drop, length-append, length-drop, List·getD-eq-default}
-use lib.Seq.{sets, sets-eq, take-at, drop-at, take-add, drop-drop, drop-append-add, length-take-le, drop-cons}
+use lib.Seq.{sets, sets-eq, length-sets, take-at, drop-at, take-add, drop-drop, drop-append-add, length-take-le, drop-cons}
 use borrow.Author.Tests.{le-leb, lt-leb}
 use Rattle.sequences.specs.Table.{overwritten}
 use Rattle.wire.specs.LittleEndian.{le16, le32, bytes16, bytes32, placed}
@@ -67,6 +67,18 @@ module _ (l : List ℕ) (at x : ℕ) where
   pub unplaced-four : length l < at + 4 → placed l at (bytes32 x) ≡ l
   unfolding bytes32
   unplaced-four h = placed-short l at (bytes32 x) h
+
+-- Bytes that are written right behind others are written with them.
+sets-append : (a l : List ℕ) (at : ℕ) (b : List ℕ) → sets (sets l at a) (at + length a) b ≡ sets l at (a ++ b)
+sets-append [] l at b = let e : at + 0 ≡ at = omega arith in rw e
+sets-append (x ∷ a) l at b =
+    let e : at + length (x ∷ a) ≡ suc at + length a = omega arith in
+    rw e (sets-append a (set l at x) (suc at) b)
+
+pub placed-behind : (l : List ℕ) (at : ℕ) (a b : List ℕ) → at + length a + length b ≤ length l → placed (placed l at a) (at + length a) b ≡ placed l at (a ++ b)
+placed-behind l at a b h =
+    rw (placed-fits l at a (omega arith), placed-fits l at (a ++ b) (omega (arith, length-append a b)))
+    (placed-fits (sets l at a) (at + length a) b (omega (arith, length-sets l at a)) ∙ sets-append a l at b)
 
 -- The bytes that were written stand there.
 pub placed-there : (l : List ℕ) (at : ℕ) (new : List ℕ) → at + length new ≤ length l → take (length new) (drop at (placed l at new)) ≡ new

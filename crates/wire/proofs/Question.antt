@@ -1,13 +1,14 @@
 -- Laws of a list of questions, however long: what one that is answered "yes" or "no" does to the answer, questions after others,
 -- questions put to an input or about a window, and what it says that none is answered "no".
--- Vocabulary: first-*, asked-*, all-*, each-*.
+-- Vocabulary: first-*, asked-*, all-*, each-*, Asking, asking-*.
 -- Assumes nothing.
-use Prim.Native.Nat.{ℕ, zero, suc, _+_, _≤_, _<_}
-use mathlib.Core.Bool.{Bool, true, false}
+use Prim.Native.Nat.{ℕ, zero, suc, _+_, _-_, _≤_, _<_}
+use mathlib.Core.Bool.{Bool, true, false, _&&_}
 use mathlib.Core.Path.{_≡_, refl, sym, ap, _∙_}
 use mathlib.Core.Logic.{_⊎_, inl, inr, ⊎-elim}
 use mathlib.Core.List.{List, [], _∷_, _++_, List·Memᴰ, List·Memᴰ·head, List·Memᴰ·tail, List·Memᴰ·not-nil, List·Memᴰ·cases-cons}
 use native.Mathlib.Omega.{arith}
+use native.Mathlib.Numerals.{add-one}
 use borrow.Author.Tests.{ltb-true, lt-ltb, le-ltb}
 use Rattle.sequences.proofs.Tests.{truth, and-left, and-right, and-intro, lt-or-ge}
 use Rattle.wire.specs.declared.Refusal.{Refusal}
@@ -122,22 +123,17 @@ all-about position [] = refl
 all-about position (q ∷ qs) = rw (all-about position qs)
 
 -- Questions one after another pass exactly if both do.
-pub all-append : (qs later : List Question) → allYes qs ≡ true → allYes later ≡ true → allYes (qs ++ later) ≡ true
+pub all-append : (qs later : List Question) → allYes (qs ++ later) ≡ (allYes qs && allYes later)
 unfolding allYes
-all-append [] later t s = s
-all-append (q ∷ qs) later t s =
-    and-intro (q .yes) (allYes (qs ++ later)) (and-left (q .yes) (allYes qs) t) (all-append qs later (and-right (q .yes) (allYes qs) t) s)
+all-append [] later = refl
+all-append (q ∷ qs) later =
+    rw (all-append qs later) (⊎-elim (λ t. rw t) (λ t. rw t) (truth (q .yes)))
 
 pub append-left : (qs later : List Question) → allYes (qs ++ later) ≡ true → allYes qs ≡ true
-unfolding allYes
-append-left [] later t = refl
-append-left (q ∷ qs) later t =
-    and-intro (q .yes) (allYes qs) (and-left (q .yes) (allYes (qs ++ later)) t) (append-left qs later (and-right (q .yes) (allYes (qs ++ later)) t))
+append-left qs later t = and-left (allYes qs) (allYes later) (sym (all-append qs later) ∙ t)
 
 pub append-right : (qs later : List Question) → allYes (qs ++ later) ≡ true → allYes later ≡ true
-unfolding allYes
-append-right [] later t = t
-append-right (q ∷ qs) later t = append-right qs later (and-right (q .yes) (allYes (qs ++ later)) t)
+append-right qs later t = and-right (allYes qs) (allYes later) (sym (all-append qs later) ∙ t)
 
 -- Questions window after window pass exactly if those about each window do.
 module _ (questions : ℕ → List Question) where
@@ -145,7 +141,8 @@ module _ (questions : ℕ → List Question) where
   unfolding each allYes
   each-all v zero h = refl
   each-all v (suc k) h =
-      all-append (about v (questions v)) (each questions (suc v) k) (all-about v (questions v) ∙ h v (omega arith) (omega arith))
+      all-append (about v (questions v)) (each questions (suc v) k)
+      ∙ and-intro (allYes (about v (questions v))) (allYes (each questions (suc v) k)) (all-about v (questions v) ∙ h v (omega arith) (omega arith))
       (each-all (suc v) k (λ u l r. h u (omega arith) (omega arith)))
 
   pub all-each : (v k : ℕ) → allYes (each questions v k) ≡ true → (u : ℕ) → v ≤ u → u < v + k → allYes (questions u) ≡ true
@@ -157,6 +154,37 @@ module _ (questions : ℕ → List Question) where
       (λ h. let e : u ≡ v = omega arith in
       rw e (sym (all-about v (questions v)) ∙ append-left (about v (questions v)) (each questions (suc v) k) t))
       (lt-or-ge v u)
+
+-- A pass that asks window after window, before the window at v: the questions that are left give the answer of all.
+pub record Asking {A : Type 0} (questions : ℕ → List Question) (refused : Refusal → A) (accepted : A) (n v : ℕ) : Type 0 where
+  pub within : v ≤ n
+  pub left : firstNo (each questions v (n - v)) refused accepted ≡ firstNo (each questions 0 n) refused accepted
+
+module _ {A : Type 0} (questions : ℕ → List Question) (refused : Refusal → A) (accepted : A) (n : ℕ) where
+  pub asking-start : Asking questions refused accepted n 0
+  asking-start = let e : n - 0 ≡ n = omega arith in record { within = omega arith; left = rw e }
+
+  pub asking-end : (v : ℕ) → n ≤ v → Asking questions refused accepted n v → accepted ≡ firstNo (each questions 0 n) refused accepted
+  unfolding each firstNo
+  asking-end v done s = let e : n - v ≡ 0 = omega arith in rw e at (s .left)
+
+  module _ (v : ℕ) (inside : v < n) (s : Asking questions refused accepted n v) where
+    -- What is left, by what is answered about the window at v.
+    here : firstNo (each questions v (n - v)) refused accepted ≡ afterAsked (askedOf (questions v)) (λ r. refused (refusalAbout v r)) (firstNo (each questions (v + 1) (n - (v + 1))) refused accepted)
+    unfolding each
+    here =
+        let e : n - v ≡ suc (n - (v + 1)) = omega arith in
+        rw (e, add-one v)
+        (first-append (about v (questions v)) (each questions (suc v) (n - suc v)) refused accepted
+        ∙ (first-about v (questions v) refused _ ∙ asked-first (questions v) _ _))
+
+    -- One window more that passes.
+    pub asking-turn : Passed ≡ askedOf (questions v) → Asking questions refused accepted n (v + 1)
+    asking-turn e = record { within = omega arith; left = sym (here ∙ rw (← e)) ∙ s .left }
+
+    -- A window that is refused is the answer, at its position.
+    pub asking-refused : (r : Refusal) → Refused r ≡ askedOf (questions v) → refused (refusalAbout v r) ≡ firstNo (each questions 0 n) refused accepted
+    asking-refused r e = sym (here ∙ rw (← e)) ∙ s .left
 
 -- Two named positions.
 module _ (first second windows : ℕ) where

@@ -3,28 +3,31 @@
 -- Assumes nothing.
 use mathlib.Core.Path.{_∙_}
 use native.Mathlib.Omega.{arith}
-use Rattle.plan.specs.File.{fileLength, headerLength, windowLength, planNumber, windowCount}
+use Rattle.plan.specs.File.{planNumber, windowCount}
 use Rattle.plan.proofs.Validation.{refused-1, refused-2, refused-3, windows-answer}
 use borrow.Author.Needs.{needs}
 use Rattle.plan.proofs.questions.validate.Statement.{statement}
 use Rattle.plan.proofs.questions.validate.Tie as tie
 
-refused-requires : tie.Need-refused-requires
-refused-requires c κs = search needs
+by-requires : tie.Need-by-requires
+by-requires c κs = search needs
 
 returns : tie.Need-returns
-returns c = c .refused .ensures ∙ refused-1 _ (c .before .if1 .taken)
+returns c = rw (c .by .ensures) (refused-1 _ (c .before .if1 .taken))
 
 read-u16-requires : tie.Need-read-u16-requires
 read-u16-requires c κs = search needs
 
-refused-requires-2 : tie.Need-refused-requires-2
-refused-requires-2 c κs = search needs
+cast-if2 : tie.Need-cast-if2
+cast-if2 c = search needs
+
+by-requires-2 : tie.Need-by-requires-2
+by-requires-2 c κs = search needs
 
 returns-2 : tie.Need-returns-2
 unfolding windowCount
-returns-2 c = c .refused2 .ensures
-    ∙ refused-2 _ _ (c .before .before .read-u16 .ensures) (c .before .before .before .if1 .left) (c .before .if2 .taken)
+returns-2 c = let d = c .before .before in
+    rw (c .by2 .ensures) (refused-2 _ _ (d .read-u16 .ensures) (d .before .if1 .left) (c .before .if2 .taken))
 
 cast-if3 : tie.Need-cast-if3
 cast-if3 c = search needs
@@ -35,41 +38,41 @@ mul-if3 c = search needs
 add-if3 : tie.Need-add-if3
 add-if3 c = search needs
 
-refused-requires-3 : tie.Need-refused-requires-3
-refused-requires-3 c κs = search needs
+by-requires-3 : tie.Need-by-requires-3
+by-requires-3 c κs = search needs
 
 returns-3 : tie.Need-returns-3
-unfolding windowCount fileLength headerLength windowLength
-returns-3 c = c .refused3 .ensures
-    ∙ refused-3 _ _ (c .before .before .before .read-u16 .ensures) (c .before .before .before .before .if1 .left) (c .before .before .if2 .left)
-    (c .before .if3 .taken)
+unfolding windowCount
+returns-3 c = let d = c .before .before .before in
+    rw (c .by3 .ensures) (refused-3 _ _ (d .read-u16 .ensures) (d .before .if1 .left) (c .before .before .if2 .left) (c .before .if3 .taken))
 
 read-u16-requires-2 : tie.Need-read-u16-requires-2
 read-u16-requires-2 c κs = search needs
 
 validate-windows-requires : tie.Need-validate-windows-requires
-unfolding fileLength headerLength windowLength
 validate-windows-requires c κs = (c .before .if3 .left, c .before .before .if2 .left)
 
 returns-4 : tie.Need-returns-4
-unfolding planNumber windowCount fileLength headerLength windowLength
-returns-4 c = c .validate-windows .ensures
-    ∙ windows-answer _ _ (c .before .before .before .before .read-u16 .ensures) _ (c .before .read-u162 .ensures)
-    (c .before .before .before .if2 .left) (c .before .before .if3 .left)
+unfolding planNumber windowCount
+returns-4 c = let d = c .before .before .before .before in
+    c .validate-windows .ensures
+    ∙ windows-answer _ _ (d .read-u16 .ensures) (d .before .if1 .left) (c .before .before .before .if2 .left) _ (c .before .read-u162 .ensures)
+    (c .before .before .if3 .left)
 
 pub validate-spec : {M : Type 1} → statement M
 validate-spec =
     tie.close
     (tie.spec
-    refused-requires
+    by-requires
     returns
     read-u16-requires
-    refused-requires-2
+    cast-if2
+    by-requires-2
     returns-2
     cast-if3
     mul-if3
     add-if3
-    refused-requires-3
+    by-requires-3
     returns-3
     read-u16-requires-2
     validate-windows-requires

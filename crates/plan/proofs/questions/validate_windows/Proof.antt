@@ -3,8 +3,7 @@
 -- Assumes nothing.
 use Prim.Native.Nat.{_-_}
 use mathlib.Core.Path.{sym, _∙_}
-use Rattle.plan.specs.File.{fileLength, headerLength, windowLength}
-use Rattle.plan.proofs.Validation.{Passed, passed-start, passed-turn, passed-fault, passed-end, window-at}
+use Rattle.plan.proofs.Validation.{Passed, passed-start, passed-turn, passed-refused, passed-end, window-at}
 use native.Mathlib.Omega.{arith}
 use borrow.Author.Needs.{needs}
 use Rattle.plan.proofs.questions.validate_windows.Statement.{statement}
@@ -38,23 +37,28 @@ part-read-window-start : tie.Need-part-read-window-start Inv-loop μ-loop
 part-read-window-start c = search needs
 
 part-read-window-end : tie.Need-part-read-window-end Inv-loop μ-loop
-unfolding fileLength headerLength windowLength
 part-read-window-end c = omega arith
 
 read-window-requires : tie.Need-read-window-requires Inv-loop μ-loop
 read-window-requires c κs = search needs
 
-fault-requires : tie.Need-fault-requires Inv-loop μ-loop
-fault-requires c κs = search needs
+ask-window-requires : tie.Need-ask-window-requires Inv-loop μ-loop
+ask-window-requires c κs = search needs
 
-refused-requires : tie.Need-refused-requires Inv-loop μ-loop
-refused-requires c κs = search needs
+enum-known-asked : tie.Need-enum-known-asked Inv-loop μ-loop
+enum-known-asked c = search needs
+
+about-requires : tie.Need-about-requires Inv-loop μ-loop
+about-requires c κs = search needs
 
 returns : tie.Need-returns Inv-loop μ-loop
-returns c = let d = c .before .before .before .before .before .before in
-    c .refused .ensures
-    ∙ passed-fault _ _ _ _ _ _ (c .before .before .before .before .before .loop-test .taken) (d .loop .inv)
-    (window-at _ _ _ (c .before .before .before .read-window .ensures)) _ (c .before .before .fault .ensures) (c .before .if1 .taken)
+returns c = let d = c .before .before .before .before in
+    rw (c .about .ensures)
+    (passed-refused _ _ _ _ _ _ (d .before .before .before .loop-test .taken) (d .before .before .before .before .loop .inv)
+    (window-at _ _ _ (d .before .read-window .ensures)) _ (sym (c .before .before .asked .given .1) ∙ d .ask-window .ensures))
+
+enum-told : tie.Need-enum-told Inv-loop μ-loop
+enum-told c = search needs
 
 add-position : tie.Need-add-position Inv-loop μ-loop
 add-position c = search needs
@@ -63,9 +67,9 @@ loop-less : tie.Need-loop-less Inv-loop μ-loop
 loop-less c = search needs
 
 loop-again : tie.Need-loop-again Inv-loop μ-loop
-loop-again c = let d = c .before .before .before .before .before in
-    passed-turn _ _ _ _ _ _ (c .before .before .before .before .loop-test .taken) (d .loop .inv)
-    (window-at _ _ _ (c .before .before .read-window .ensures)) (sym (c .before .fault .ensures) ∙ c .if1 .left)
+loop-again c = let d = c .before .before in
+    passed-turn _ _ _ _ _ _ (d .before .before .before .loop-test .taken) (d .before .before .before .before .loop .inv)
+    (window-at _ _ _ (d .before .read-window .ensures)) (sym (c .enum-told .given .1) ∙ d .ask-window .ensures)
 
 returns-2 : tie.Need-returns-2 Inv-loop μ-loop
 returns-2 c = passed-end _ _ _ _ _ (c .loop-test .left) (c .before .loop .inv)
@@ -85,9 +89,11 @@ validate-windows-spec =
     part-read-window-start
     part-read-window-end
     read-window-requires
-    fault-requires
-    refused-requires
+    ask-window-requires
+    enum-known-asked
+    about-requires
     returns
+    enum-told
     add-position
     loop-less
     loop-again
