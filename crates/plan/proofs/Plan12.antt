@@ -7,9 +7,9 @@ use mathlib.Core.List.{List, [], _∷_, flatMap}
 use Rattle.sequences.specs.Table.{table}
 use Rattle.interval_graph.proofs.Plan12.{definitions, row, listing}
 use Rattle.wire.specs.LittleEndian.{le16, le32, bytes16, bytes32}
-use Rattle.wire.specs.Question.{question, about, each, firstNo}
+use Rattle.wire.specs.Question.{refusalBy, refusalAbout, question, about, each, firstNo}
 use Rattle.plan.specs.declared.windows.Window.{Window}
-use Rattle.plan.specs.declared.questions.Validation.the-variants.{Accepted}
+use Rattle.plan.specs.declared.questions.Validation.the-variants.{Accepted, Refused}
 use Rattle.plan.specs.File.{planNumber, windowCount, windowOf, windowAt, endOf, windowBytes, fileOf}
 use Rattle.plan.specs.Overlap.{covers, sharedMinutes, overlaps}
 use Rattle.plan.specs.Validation.{offsetBefore, windowQuestions, fileQuestions, planQuestions, validateOf}
@@ -33,3 +33,22 @@ plan-12-accepted = refl
 pub plan-12-tables : table (row (overlaps file)) 7 ≡ listing
 unfolding meaning row listing
 plan-12-tables = refl
+
+-- Each of questions 1 to 6 by a file that fails it: three bytes; 2,049 windows, also in a short file; a byte too many; length 0 with a
+-- falling offset; the sum 10,000,001; a falling offset. The second window is refused at position 1.
+pub refusals : validateOf (0 ∷ 0 ∷ 0 ∷ [])
+    ∷ validateOf (0 ∷ 0 ∷ 1 ∷ 8 ∷ [])
+    ∷ validateOf (0 ∷ 0 ∷ 0 ∷ 0 ∷ 0 ∷ [])
+    ∷ validateOf (fileOf 0 (window 5 5 ∷ window 4 0 ∷ []))
+    ∷ validateOf (fileOf 0 (window 10000000 1 ∷ []))
+    ∷ validateOf (fileOf 0 (window 5 5 ∷ window 4 5 ∷ []))
+    ∷ []
+    ≡ Refused (refusalBy 1)
+    ∷ Refused (refusalBy 2)
+    ∷ Refused (refusalBy 3)
+    ∷ Refused (refusalAbout 1 (refusalBy 4))
+    ∷ Refused (refusalBy 5)
+    ∷ Refused (refusalAbout 1 (refusalBy 6))
+    ∷ []
+unfolding meaning
+refusals = refl

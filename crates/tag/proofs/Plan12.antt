@@ -7,13 +7,16 @@ use mathlib.Core.List.{List, [], _∷_, _++_, flatMap}
 use Rattle.interval_graph.specs.Numbers.{numbersOf}
 use Rattle.interval_graph.proofs.Plan12.{definitions, overlaps}
 use Rattle.wire.specs.LittleEndian.{le16, bytes16}
-use Rattle.wire.specs.Question.{refusalBy, refusalFrom, question, from, positionQuestion, positionQuestions, firstNo}
+use Rattle.wire.specs.Question.{refusalBy, refusalFrom, question, from, positionQuestion, positionQuestions, roomQuestion, firstNo}
 use Rattle.tag.specs.declared.pairs.PairAnswer.{PairAnswer}
 use Rattle.tag.specs.declared.pairs.PairAnswer.the-variants.{Handovers, NoChain, Refused}
 use Rattle.tag.specs.Fields.{field, tagOf, numbers, tagBytes, withinLimit}
+use Rattle.tag.specs.declared.tag_file.LookupAnswer.the-variants as lookup
+use Rattle.tag.specs.declared.writer.WriteAnswer.the-variants as write
 use Rattle.tag.specs.Reading.{readQuestions}
+use Rattle.tag.specs.Writing.{writeQuestions, writeOf}
 use Rattle.tag.specs.TagFile.{tagFile, tagCount, tagPart, tagFileQuestion, lookupQuestions, lookupOf, partAt, lookupPart}
-use Rattle.tag.specs.Pairing.{agreeing, compareQuestions, pairQuestions, answerOf, pairOf}
+use Rattle.tag.specs.Pairing.{agreeing, compareQuestions, pairQuestions, answerOf, pairOf, pairAtOf}
 
 -- What a computation on tags opens.
 unfoldable pub meaning : Unit {0}
@@ -65,3 +68,22 @@ pub refusals : pairOf (lookupPart tags 7) (tag 12 2048 0 0 0)
     ∷ []
 unfolding meaning tags tag
 refusals = refl
+
+-- The same pairs from positions of the tag file: the answers, and no tag at the first position and at the second.
+pub plan-12-positions : pairAtOf tags 0 5 ∷ pairAtOf tags 5 6 ∷ pairAtOf tags 7 8 ∷ pairAtOf tags 0 7 ∷ []
+    ≡ Handovers 3 ∷ NoChain ∷ Refused (refusalBy 7) ∷ Refused (refusalFrom 1 (refusalBy 7)) ∷ []
+unfolding meaning tags pairAtOf
+plan-12-positions = refl
+
+-- One byte is no tag file, before there is no tag at a position; and a table without room comes before a field of 2,048.
+pub file-first : pairAtOf (0 ∷ []) 0 0 ≡ Refused (refusalBy 9)
+unfolding meaning pairAtOf
+file-first = refl
+
+pub length-first : lookupOf (0 ∷ []) 0 ≡ lookup.Refused (refusalBy 9)
+unfolding meaning
+length-first = refl
+
+pub room-first : writeOf (record { plan = 12; component = 2048; depth = 0; rank = 0; last = 0 }) [] ≡ write.Refused (refusalBy 8)
+unfolding meaning writeOf writeQuestions roomQuestion
+room-first = refl
