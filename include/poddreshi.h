@@ -74,6 +74,10 @@ uint64_t poddreshi_build(const uint8_t *file, size_t file_length,
                          uint16_t *last_ranks, size_t last_ranks_length,
                          uint8_t *tags, size_t tags_length);
 
+/* The tag file of a plan alone. Questions 1 to 6 and 8: it has room for 10 n bytes.
+ * BUILT, as build answers. The first 10 n bytes of tags are the tags in order of position. */
+uint64_t poddreshi_tags(const uint8_t *file, size_t file_length, uint8_t *tags, size_t tags_length);
+
 /* The reach of a position's component: the depth of its last window plus 1. Questions 1 to 6 and 7.
  * REACH: a number of handovers. No two windows of the component are more handovers apart. */
 uint64_t poddreshi_reach(const uint8_t *file, size_t file_length, size_t at);
@@ -100,6 +104,11 @@ uint64_t poddreshi_same(const uint8_t *first, size_t first_length, const uint8_t
  * HANDOVERS: the least number of handovers between the two windows, for the tags that build writes.
  * NO_CHAIN: no chain joins the two windows. */
 uint64_t poddreshi_pair(const uint8_t *first, size_t first_length, const uint8_t *second, size_t second_length);
+
+/* The answer from the tags at two positions of a tag file. Question 9, 7 for the first position and then the second (the number of
+ * windows is the number of tags), and then those of the pair.
+ * HANDOVERS or NO_CHAIN, as a pair answers. */
+uint64_t poddreshi_pair_at(const uint8_t *tags, size_t tags_length, size_t first, size_t second);
 
 /* Where in a tag file the tag at a position begins. Questions 9 and 7; the number of windows is the number of tags.
  * FOUND: *offset is set, and the tag is the ten bytes from tags + *offset on. */

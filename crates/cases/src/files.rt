@@ -1,48 +1,46 @@
 // Plan files to try the calls on.
-ghost use Prim.Native.Nat.{_≤_, _<_};
+use plan::GREATEST_COUNT;
+use plan::HEADER_LENGTH;
+use plan::WINDOW_LENGTH;
+use plan::Window;
 
-pub(crate) fn put_header(file: &mut [u8], plan: u16, windows: u16) {
-    wire::write_u16(file, 0, plan);
+// Paper 01's plan 12: offset and length of each window.
+const PLAN_12: [u32; 14] = [0, 10, 2, 3, 4, 12, 9, 2, 12, 6, 17, 1, 18, 4];
+
+pub(crate) fn put_header(file: &mut [u8], windows: u16) {
+    wire::write_u16(file, 0, 12);
     wire::write_u16(file, 2, windows);
 }
 
-fn put_number(file: &mut [u8], at: usize, value: u32)
-    requires { ⌜ at < 65536 ⌝ }
-{
-    wire::write_u16(file, at, (value % 65536) as u16);
-    wire::write_u16(file, at + 2, (value / 65536 % 65536) as u16);
-}
-
 pub(crate) fn put_window(file: &mut [u8], position: usize, offset: u32, length: u32) {
-    if position < 2048 {
-        put_number(file, 4 + 8 * position, offset);
-        put_number(file, 8 + 8 * position, length);
+    if position < GREATEST_COUNT {
+        plan::write_window(
+            Window { offset, length },
+            file,
+            HEADER_LENGTH + WINDOW_LENGTH * position,
+        );
     }
 }
 
-// Paper 01's plan 12.
+fn put_plan_12(file: &mut [u8]) {
+    put_header(file, 7);
+    let windows = PLAN_12;
+    for position in 0..7 {
+        put_window(
+            file,
+            position,
+            windows[2 * position],
+            windows[2 * position + 1],
+        );
+    }
+}
+
 pub(crate) fn plan_12() -> [u8; 60] {
     let mut file = [0; 60];
-    put_header(&mut file, 12, 7);
-    put_window(&mut file, 0, 0, 10);
-    put_window(&mut file, 1, 2, 3);
-    put_window(&mut file, 2, 4, 12);
-    put_window(&mut file, 3, 9, 2);
-    put_window(&mut file, 4, 12, 6);
-    put_window(&mut file, 5, 17, 1);
-    put_window(&mut file, 6, 18, 4);
+    put_plan_12(&mut file);
     file
 }
 
-// A plan of one window.
-pub(crate) fn one_window(offset: u32, length: u32) -> [u8; 12] {
-    let mut file = [0; 12];
-    put_header(&mut file, 12, 1);
-    put_window(&mut file, 0, offset, length);
-    file
-}
-
-// A plan of two windows.
 pub(crate) fn two_windows(
     first_offset: u32,
     first_length: u32,
@@ -50,7 +48,7 @@ pub(crate) fn two_windows(
     second_length: u32,
 ) -> [u8; 20] {
     let mut file = [0; 20];
-    put_header(&mut file, 12, 2);
+    put_header(&mut file, 2);
     put_window(&mut file, 0, first_offset, first_length);
     put_window(&mut file, 1, second_offset, second_length);
     file
@@ -58,10 +56,10 @@ pub(crate) fn two_windows(
 
 // The largest plan: a staircase, in which each window overlaps the one before it and the one behind it, and no other.
 pub(crate) fn put_staircase(file: &mut [u8]) {
-    put_header(file, 12, 2048);
-    let mut position: u32 = 0;
-    while position < 2048 {
-        put_window(file, position as usize, position, 2);
-        position += 1;
+    put_header(file, 2048);
+    let mut offset: u32 = 0;
+    while offset < 2048 {
+        put_window(file, offset as usize, offset, 2);
+        offset += 1;
     }
 }

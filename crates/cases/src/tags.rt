@@ -1,185 +1,211 @@
-// Tags: looked up, answered from, read and written.
-use crate::files;
-use crate::plans::print_name;
-use libc::STDOUT_FILENO;
-use tag::LookupAnswer;
-use tag::Tag;
-use tag::TagRead;
-use tag::WriteAnswer;
+// Pairs of tags, and tags written.
+use crate::words::print;
+use crate::words::print_answer;
+use crate::words::print_number;
 
-// The tag file of plan 12.
-fn plan_12_tags() -> [u8; 70] {
-    let mut parents = [0; 7];
-    let mut components = [0; 7];
-    let mut depths = [0; 7];
-    let mut ranks = [0; 7];
-    let mut last_ranks = [0; 7];
-    let mut tags = [0; 70];
-    tree::build(
-        &files::plan_12(),
-        &mut parents,
-        &mut components,
-        &mut depths,
-        &mut ranks,
-        &mut last_ranks,
-        &mut tags,
-    );
-    tags
-}
+// How many bytes of the first tag are given, its five numbers, and the same of the second: too few bytes, too many, both; fields of
+// 2,048 first, second, and before too few bytes; two plans, with one rank at two depths, and apart; one rank at two depths, with two
+// lasts, and in two components; the greatest fields.
+const PAIRS: [u16; 144] = [
+    9,
+    12,
+    0,
+    1,
+    3,
+    2,
+    10,
+    12,
+    0,
+    1,
+    3,
+    2,
+    10,
+    12,
+    0,
+    1,
+    3,
+    2,
+    11,
+    12,
+    0,
+    1,
+    3,
+    2,
+    0,
+    12,
+    0,
+    1,
+    3,
+    2,
+    11,
+    12,
+    0,
+    1,
+    3,
+    2,
+    10,
+    12,
+    0,
+    2048,
+    3,
+    2,
+    10,
+    12,
+    0,
+    1,
+    3,
+    2,
+    10,
+    12,
+    0,
+    1,
+    3,
+    2,
+    10,
+    12,
+    0,
+    1,
+    3,
+    2048,
+    10,
+    12,
+    0,
+    1,
+    2048,
+    2,
+    9,
+    12,
+    0,
+    1,
+    3,
+    2,
+    10,
+    12,
+    0,
+    1,
+    3,
+    2,
+    10,
+    13,
+    0,
+    2,
+    3,
+    2,
+    10,
+    12,
+    0,
+    1,
+    3,
+    2,
+    10,
+    13,
+    1,
+    1,
+    3,
+    2,
+    10,
+    12,
+    0,
+    1,
+    3,
+    2,
+    10,
+    12,
+    0,
+    2,
+    3,
+    2,
+    10,
+    12,
+    0,
+    1,
+    3,
+    2,
+    10,
+    12,
+    0,
+    1,
+    3,
+    1,
+    10,
+    12,
+    0,
+    1,
+    3,
+    2,
+    10,
+    12,
+    1,
+    2,
+    3,
+    2,
+    10,
+    65535,
+    2047,
+    2047,
+    2047,
+    2047,
+    10,
+    65535,
+    2047,
+    0,
+    0,
+    0,
+];
 
-// A tag of any five numbers.
-fn tag_of(plan: u16, component: u16, depth: u16, rank: u16, last: u16) -> [u8; 10] {
-    let mut bytes = [0; 10];
-    wire::write_u16(&mut bytes, 0, plan);
-    wire::write_u16(&mut bytes, 2, component);
-    wire::write_u16(&mut bytes, 4, depth);
-    wire::write_u16(&mut bytes, 6, rank);
-    wire::write_u16(&mut bytes, 8, last);
+// The first row of a tag, as bytes.
+fn tag_of(numbers: [u16; 6]) -> [u8; 11] {
+    let mut bytes = [0; 11];
+    for field in 0..5 {
+        wire::write_u16(&mut bytes, 2 * field, numbers[field + 1]);
+    }
     bytes
 }
 
-fn count(name: &[u8], first: &[u8], second: &[u8]) {
-    print_name(name);
-    replies::print_count(STDOUT_FILENO, first, second);
-}
-
-fn count_at(name: &[u8], tags: &[u8], first: usize, second: usize) {
-    count(name, tag::lookup(tags, first), tag::lookup(tags, second));
-}
-
-fn lookup(name: &[u8], tags: &[u8], at: usize) {
-    print_name(name);
-    match tag::lookup_refusal(tags, at) {
-        LookupAnswer::Found => {
-            let part = tag::lookup(tags, at);
-            io::print_decimal(STDOUT_FILENO, part.len() as u64);
-            io::write_all(STDOUT_FILENO, b" bytes\n");
-        }
-        LookupAnswer::Refused(refusal) => {
-            report::print_refusal(STDOUT_FILENO, refusal);
-        }
+fn print_tag(numbers: [u16; 6]) {
+    for at in 0..6 {
+        print_field(numbers[at]);
     }
 }
 
-fn read(name: &[u8], bytes: &[u8]) {
-    print_name(name);
-    match Tag::read(bytes) {
-        TagRead::Valid(tag) => {
-            let numbers = [tag.plan, tag.component, tag.depth, tag.rank, tag.last];
-            report::print_numbers(STDOUT_FILENO, &numbers, 5);
-        }
-        TagRead::Refused(refusal) => {
-            report::print_refusal(STDOUT_FILENO, refusal);
-        }
-    }
+fn print_field(field: u16) {
+    print_number(field as u64);
 }
 
-fn write(name: &[u8], component: u16, last: u16, out: &mut [u8]) {
-    print_name(name);
-    match tag::write(12, component, 2, 3, last, out) {
-        WriteAnswer::Written => {
-            io::write_all(STDOUT_FILENO, b"written\n");
-        }
-        WriteAnswer::Refused(refusal) => {
-            report::print_refusal(STDOUT_FILENO, refusal);
-        }
-    }
+fn lesser(length: u16) -> usize {
+    if length < 11 { length as usize } else { 11 }
 }
 
-fn wide(byte: u8) -> u16 {
-    byte as u16
-}
-
-fn counts(tags: &[u8]) {
-    count_at(b"count 0 and 5", tags, 0, 5);
-    count_at(b"count 1 and 5", tags, 1, 5);
-    count_at(b"count 3 and 5", tags, 3, 5);
-    count_at(b"count 2 and 3", tags, 2, 3);
-    count_at(b"count 1 and 3", tags, 1, 3);
-    count_at(b"count 3 and 4", tags, 3, 4);
-    count_at(b"count 5 and 4", tags, 5, 4);
-    count_at(b"count 5 and 6", tags, 5, 6);
-    count_at(b"count 6 and 6", tags, 6, 6);
-}
-
-fn lookups(tags: &[u8]) {
-    let empty: [u8; 0] = [];
-    lookup(b"lookup of 6", tags, 6);
-    lookup(b"lookup of 7", tags, 7);
-    lookup(
-        b"lookup of 18,446,744,073,709,551,615",
-        tags,
-        18446744073709551615,
-    );
-    lookup(b"lookup in no tags", &empty, 0);
-    lookup(b"lookup in 11 bytes, past its end", &[0; 11], 9);
-}
-
-fn refused_tags(valid: &[u8]) {
-    count(b"9 bytes first", &[0; 9], valid);
-    count(b"11 bytes second", valid, &[0; 11]);
-    count(b"no bytes, and 11 bytes", &[0; 0], &[0; 11]);
-}
-
-fn refused_fields(valid: &[u8]) {
-    count(b"a depth of 2,048 first", &tag_of(12, 0, 2048, 3, 2), valid);
-    count(b"a last of 2,048 second", valid, &tag_of(12, 0, 1, 3, 2048));
-    count(
-        b"a rank of 2,048 first, 9 bytes second",
-        &tag_of(12, 0, 1, 2048, 2),
-        &[0; 9],
-    );
-}
-
-fn refused_pairs(valid: &[u8]) {
-    count(b"plans 12 and 13", valid, &tag_of(13, 1, 1, 3, 2));
-    count(
-        b"plans 12 and 13 with one rank at two depths",
-        valid,
-        &tag_of(13, 0, 2, 3, 2),
-    );
-}
-
-fn one_rank(valid: &[u8]) {
-    count(b"one rank at two depths", valid, &tag_of(12, 0, 2, 3, 2));
-    count(b"one rank with two lasts", valid, &tag_of(12, 0, 1, 3, 1));
-    count(
-        b"one rank in two components",
-        valid,
-        &tag_of(12, 1, 2, 3, 2),
-    );
-    count(
-        b"fields of 2,047",
-        &tag_of(65535, 2047, 2047, 2047, 2047),
-        &tag_of(65535, 2047, 0, 0, 0),
-    );
-}
-
-fn reads() {
-    read(b"read of 12 1 2 3 4", &tag_of(12, 1, 2, 3, 4));
-    read(b"read of a component of 2,048", &tag_of(12, 2048, 2, 3, 4));
-    read(b"read of 9 bytes", &[0; 9]);
-}
-
-fn writes() {
-    let mut out = [9; 12];
-    write(b"write of a component of 2,048", 2048, 4, &mut out);
-    write(b"write of a last of 2,048", 1, 2048, &mut out);
-    write(b"write into 9 bytes", 1, 4, &mut [0; 9]);
-    write(b"write of 2,048 into 9 bytes", 2048, 4, &mut [0; 9]);
-    write(b"write into 12 bytes", 2047, 2047, &mut out);
-    print_name(b"bytes 0, 9 and 11");
-    let bytes = [wide(out[0]), wide(out[9]), wide(out[11])];
-    report::print_numbers(STDOUT_FILENO, &bytes, 3);
+fn pair(first: [u16; 6], second: [u16; 6]) {
+    print(b"tags");
+    print_tag(first);
+    print_tag(second);
+    let a = tag_of(first);
+    let b = tag_of(second);
+    print_answer(packing::pack_pair(tag::pair(&a[..11], &b[..11])));
 }
 
 pub(crate) fn run() {
-    counts(&plan_12_tags());
-    lookups(&plan_12_tags());
-    refused_tags(&tag_of(12, 0, 1, 3, 2));
-    refused_fields(&tag_of(12, 0, 1, 3, 2));
-    refused_pairs(&tag_of(12, 0, 1, 3, 2));
-    one_rank(&tag_of(12, 0, 1, 3, 2));
-    reads();
-    writes();
+    let rows = PAIRS;
+    for row in 0..12 {
+        let at = 12 * row;
+        pair(
+            [
+                rows[at],
+                rows[at + 1],
+                rows[at + 2],
+                rows[at + 3],
+                rows[at + 4],
+                rows[at + 5],
+            ],
+            [
+                rows[at + 6],
+                rows[at + 7],
+                rows[at + 8],
+                rows[at + 9],
+                rows[at + 10],
+                rows[at + 11],
+            ],
+        );
+    }
 }

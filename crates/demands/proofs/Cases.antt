@@ -18,7 +18,7 @@ use Rattle.plan.specs.declared.questions.Validation.{Validation}
 use Rattle.plan.specs.declared.questions.Validation.the-variants.{Accepted, Refused}
 use Rattle.plan.specs.File.{planNumber, windowCount}
 use Rattle.plan.specs.Overlap.{overlaps}
-use Rattle.plan.specs.Validation.{planQuestions, validateOf, AcceptedPlan}
+use Rattle.plan.specs.Validation.{planQuestions, validateAnswerOf, AcceptedPlan}
 use Rattle.plan.proofs.Plan12.{meaning}
 use Rattle.plan.proofs.Overlap.{interval-order}
 use Rattle.path.specs.Chain.{chainBetween}
@@ -28,8 +28,8 @@ isAccepted : Validation → Bool
 isAccepted (Accepted plan windows) = true
 isAccepted (Refused r) = false
 
-accepted-is : (file : List ℕ) → isAccepted (validateOf file) ≡ true → AcceptedPlan file
-unfolding validateOf isAccepted
+accepted-is : (file : List ℕ) → isAccepted (validateAnswerOf file) ≡ true → AcceptedPlan file
+unfolding validateAnswerOf isAccepted
 accepted-is file t =
     ⊎-elim (λ e. e) (λ r. let z : _≡_ {A = Bool} false true = sym (ap isAccepted (r .1)) ∙ t in absurd (mathlib.Core.Bool.false≢true z))
     (first-cases (planQuestions 0 file) Refused (Accepted (planNumber file) (windowCount file)))
@@ -69,7 +69,7 @@ found c =
 
 test : Case → Bool
 test c =
-    isAccepted (validateOf (c .file))
+    isAccepted (validateAnswerOf (c .file))
     && (ltb (c .first) (windowCount (c .file))
     && (ltb (c .second) (windowCount (c .file))
     && (sameOutcome (found c) (c .expected)
@@ -91,10 +91,10 @@ test-holds c t =
     let t4 = sameOutcome (found c) (c .expected) && t5 in
     let t3 = ltb (c .second) (windowCount (c .file)) && t4 in
     let t2 = ltb (c .first) (windowCount (c .file)) && t3 in
-    let h2 = and-right (isAccepted (validateOf (c .file))) t2 t in
+    let h2 = and-right (isAccepted (validateAnswerOf (c .file))) t2 t in
     let h3 = and-right (ltb (c .first) (windowCount (c .file))) t3 h2 in
     let h4 = and-right (ltb (c .second) (windowCount (c .file))) t4 h3 in
-    let ok = accepted-is (c .file) (and-left (isAccepted (validateOf (c .file))) t2 t) in
+    let ok = accepted-is (c .file) (and-left (isAccepted (validateAnswerOf (c .file))) t2 t) in
     let hu = ltb-true _ _ (and-left (ltb (c .first) (windowCount (c .file))) t3 h2) in
     let hv = ltb-true _ _ (and-left (ltb (c .second) (windowCount (c .file))) t4 h3) in
     record {

@@ -23,11 +23,11 @@ use Rattle.wire.specs.declared.Refusal.{Refusal}
 use Rattle.wire.specs.Question.{question, firstNo}
 use Rattle.plan.specs.File.{planNumber, windowCount}
 use Rattle.plan.specs.Overlap.{overlaps}
-use Rattle.plan.specs.Validation.{AcceptedPlan, validateOf}
+use Rattle.plan.specs.Validation.{AcceptedPlan, validateAnswerOf}
 use Rattle.plan.proofs.Overlap.{interval-order}
-use Rattle.tag.specs.declared.pairing.PairAnswer.the-variants as PairAnswer
-use Rattle.tag.specs.Pairs.{agreeing, compareQuestions, answerOf, comparedOf, pairOf}
-use Rattle.tag.proofs.Pairs.{pair-tagFile}
+use Rattle.tag.specs.declared.pairs.PairAnswer.the-variants as PairAnswer
+use Rattle.tag.specs.Pairing.{agreeing, compareQuestions, answerOf, comparedOf, pairAnswerOf}
+use Rattle.tag.proofs.Pairing.{pair-tagFile}
 use Rattle.tree.specs.Tables.{numbersAt}
 use Rattle.path.specs.declared.answers.ChainAnswer.the-variants as ChainAnswer
 use Rattle.path.specs.Questions.{positionQuestion, roomQuestion}
@@ -80,7 +80,7 @@ module _ (file : List ℕ) (ok : AcceptedPlan file) (u v : ℕ) (hu : u < window
       (λ t. refl)
 
   -- So the answer from the two tags is what the rule says.
-  pair-rule : pairOf (tagAt file u) (tagAt file v) ≡ answerOf (outcome (numbersOf (windowCount file) (overlaps file) (planNumber file) u) (numbersOf (windowCount file) (overlaps file) (planNumber file) v))
+  pair-rule : pairAnswerOf (tagAt file u) (tagAt file v) ≡ answerOf (outcome (numbersOf (windowCount file) (overlaps file) (planNumber file) u) (numbersOf (windowCount file) (overlaps file) (planNumber file) v))
   unfolding tagAt numbersAt numbersOf comparedOf compareQuestions question firstNo
   pair-rule =
       pair-tagFile (numbersAt file) (windowCount file) u v hu hv (window-within file ok u hu) (window-within file ok v hv)
@@ -90,7 +90,7 @@ module _ (file : List ℕ) (ok : AcceptedPlan file) (u v : ℕ) (hu : u < window
   chain-asked : (room : ℕ) → chainAnswerOf file u v room ≡ firstNo (roomQuestion (length (chainBetween file u v)) room ∷ []) ChainAnswer.Refused (chainFound (chainBetween file u v))
   unfolding chainAnswerOf chainQuestions positionQuestion question firstNo
   chain-asked room =
-      sym (plan-accepted file (chainQuestions (windowCount file) u v (chainBetween file u v) room) ChainAnswer.Refused (chainFound (chainBetween file u v)) (validateOf file) refl _ _ ok)
+      sym (plan-accepted file (chainQuestions (windowCount file) u v (chainBetween file u v) room) ChainAnswer.Refused (chainFound (chainBetween file u v)) (validateAnswerOf file) refl _ _ ok)
       ∙ rw (lt-ltb u (windowCount file) hu, lt-ltb v (windowCount file) hv)
 
   -- Where the table holds the chain, the answer is what is found of it; where it does not, the answer is a refusal.
@@ -119,7 +119,7 @@ module _ (file : List ℕ) (ok : AcceptedPlan file) (u v : ℕ) (hu : u < window
   none-chain room e =
       chain-roomy room (rw e (omega arith)) ∙ ap chainFound e
 
-  counting : (k : ℕ) → (pairOf (tagAt file u) (tagAt file v) ≡ PairAnswer.Handovers k) ↔ LeastHandovers (windowCount file) (overlaps file) u v k
+  counting : (k : ℕ) → (pairAnswerOf (tagAt file u) (tagAt file v) ≡ PairAnswer.Handovers k) ↔ LeastHandovers (windowCount file) (overlaps file) u v k
   counting k =
       let rule = outcome-apart order u v (planNumber file) k hu hv in
       (λ e. rule .0 (answer-count _ k .0 (sym pair-rule ∙ e)), λ least. pair-rule ∙ answer-count _ k .1 (rule .1 least))

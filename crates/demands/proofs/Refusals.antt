@@ -12,20 +12,20 @@ use Rattle.wire.specs.declared.Refusal.{Refusal}
 use Rattle.wire.specs.Question.{Question, firstNo}
 use Rattle.wire.proofs.Question.{first-yes, first-no}
 use Rattle.plan.specs.declared.questions.Validation.the-variants as Validation
-use Rattle.plan.specs.Validation.{validateOf}
-use Rattle.tag.specs.declared.tags.TagRead.the-variants as TagRead
+use Rattle.plan.specs.Validation.{validateAnswerOf}
+use Rattle.tag.specs.declared.reader.TagRead.the-variants as TagRead
 use Rattle.tag.specs.declared.writer.WriteAnswer.the-variants as WriteAnswer
-use Rattle.tag.specs.declared.lookups.LookupAnswer.the-variants as LookupAnswer
-use Rattle.tag.specs.declared.pairing.PairAnswer.the-variants as PairAnswer
+use Rattle.tag.specs.declared.tag_file.LookupAnswer.the-variants as LookupAnswer
+use Rattle.tag.specs.declared.pairs.PairAnswer.the-variants as PairAnswer
 use Rattle.tag.specs.Fields.{tagOf, numbers}
-use Rattle.tag.specs.Reading.{readOf}
-use Rattle.tag.specs.Writing.{writeOf, afterWrite}
-use Rattle.tag.specs.TagFile.{lookupOf}
-use Rattle.tag.specs.Pairs.{answerOf, pairOf}
+use Rattle.tag.specs.Reading.{readAnswerOf}
+use Rattle.tag.specs.Writing.{writeAnswerOf, afterWrite}
+use Rattle.tag.specs.TagFile.{lookupAnswerOf}
+use Rattle.tag.specs.Pairing.{answerOf, pairAnswerOf}
 use Rattle.tree.specs.declared.answers.BuildAnswer.the-variants as BuildAnswer
 use Rattle.tree.specs.declared.answers.ReachAnswer.the-variants as ReachAnswer
-use Rattle.tree.specs.Build.{buildOf, afterBuild, afterTags}
-use Rattle.tree.specs.ReachCall.{reachOf}
+use Rattle.tree.specs.Build.{buildAnswerOf, afterBuild, afterTags}
+use Rattle.tree.specs.ReachCall.{reachAnswerOf}
 use Rattle.path.specs.declared.answers.ChainAnswer.the-variants as ChainAnswer
 use Rattle.path.specs.declared.answers.NeighboursAnswer.the-variants as NeighboursAnswer
 use Rattle.path.specs.declared.answers.SameAnswer.the-variants as SameAnswer
@@ -67,7 +67,7 @@ same-found true r e = let z : _≡_ {A = ℕ} 0 1 = cc in omega arith
 same-found false r e = let z : _≡_ {A = ℕ} 0 1 = cc in omega arith
 
 pub demand-1 : Demand1
-unfolding validateOf buildOf reachOf chainAnswerOf neighboursAnswerOf sameAnswerOf readOf writeOf lookupOf pairOf afterBuild afterTags afterChain afterNeighbours afterWrite
+unfolding validateAnswerOf buildAnswerOf reachAnswerOf chainAnswerOf neighboursAnswerOf sameAnswerOf readAnswerOf writeAnswerOf lookupAnswerOf pairAnswerOf afterBuild afterTags afterChain afterNeighbours afterWrite
 demand-1 =
     record {
       validating = λ file. refuses Validation.Refused _ (λ r s e. cc) (λ r e. let z : _≡_ {A = ℕ} 0 1 = cc in omega arith) _;

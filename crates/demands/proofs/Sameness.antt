@@ -11,7 +11,7 @@ use Rattle.interval_graph.proofs.Sameness.{SameNumbers}
 use Rattle.wire.specs.LittleEndian.{bytes16}
 use Rattle.plan.specs.File.{windowCount}
 use Rattle.plan.specs.Overlap.{overlaps}
-use Rattle.tag.specs.declared.tags.Tag.{Tag}
+use Rattle.tag.specs.declared.reader.Tag.{Tag}
 use Rattle.tag.specs.Fields.{tagOf, tagWith, tagBytes}
 use Rattle.tag.proofs.Fields.{tagOf-tagBytes}
 use Rattle.tag.proofs.TagFile.{tagFile-lookup}

@@ -23,19 +23,19 @@ use Rattle.plan.specs.declared.questions.Validation.{Validation}
 use Rattle.plan.specs.declared.questions.Validation.the-variants as Validation
 use Rattle.plan.specs.File.{windowCount}
 use Rattle.plan.specs.Overlap.{overlaps}
-use Rattle.plan.specs.Validation.{planQuestions, validateOf, AcceptedPlan}
+use Rattle.plan.specs.Validation.{planQuestions, validateAnswerOf, AcceptedPlan}
 use Rattle.plan.proofs.Accepted.{accepted-sound}
 use Rattle.plan.proofs.Calls.{plan-refused, plan-accepted, accepted-numbers}
 use Rattle.plan.proofs.Overlap.{interval-order}
-use Rattle.tag.specs.declared.pairing.PairAnswer.{PairAnswer}
-use Rattle.tag.specs.declared.pairing.PairAnswer.the-variants as PairAnswer
+use Rattle.tag.specs.declared.pairs.PairAnswer.{PairAnswer}
+use Rattle.tag.specs.declared.pairs.PairAnswer.the-variants as PairAnswer
 use Rattle.tag.specs.Fields.{fieldCount, tagLength}
-use Rattle.tag.specs.Pairs.{pairOf}
+use Rattle.tag.specs.Pairing.{pairAnswerOf}
 use Rattle.tag.specs.TagFile.{tagFile, lookupPart}
 use Rattle.tag.proofs.TagFile.{length-tagFile}
 use Rattle.tree.specs.declared.answers.BuildAnswer.{BuildAnswer}
 use Rattle.tree.specs.Tables.{numbersAt}
-use Rattle.tree.specs.Build.{buildOf, afterTags}
+use Rattle.tree.specs.Build.{buildAnswerOf, afterTags}
 use Rattle.path.specs.declared.answers.ChainAnswer.{ChainAnswer}
 use Rattle.path.specs.declared.answers.ChainAnswer.the-variants as ChainAnswer
 use Rattle.path.specs.Questions.{positionQuestion}
@@ -47,7 +47,7 @@ use Rattle.demands.proofs.Tree.{demand-2}
 use Rattle.demands.proofs.Counts.{counts, chain-roomy, chain-short, found-count}
 
 -- Build fills the front of a table of 20,480 bytes with the plan's tag file.
-pub tags-filled : (file tags₀ tags : List ℕ) (answer : BuildAnswer) → AcceptedPlan file → length tags₀ ≡ 20480 → answer ≡ buildOf file 2048 2048 2048 2048 2048 (length tags₀) → tags ≡ afterTags answer (numbersAt file) tags₀ → tags ≡ overwritten tags₀ (tagFile (numbersAt file) (windowCount file))
+pub tags-filled : (file tags₀ tags : List ℕ) (answer : BuildAnswer) → AcceptedPlan file → length tags₀ ≡ 20480 → answer ≡ buildAnswerOf file 2048 2048 2048 2048 2048 (length tags₀) → tags ≡ afterTags answer (numbersAt file) tags₀ → tags ≡ overwritten tags₀ (tagFile (numbersAt file) (windowCount file))
 tags-filled file tags₀ tags answer ok long built after =
     let few = accepted-sound file ok .few in
     after
@@ -55,14 +55,14 @@ tags-filled file tags₀ tags answer ok long built after =
     ∙ demand-2 .tree file ok 2048 2048 2048 2048 2048 (length tags₀) few few few few few (omega arith) .tags tags₀)
 
 -- The tags looked up in that front are the windows' tags.
-pub pair-front : (file tags₀ tags : List ℕ) (windows first second : ℕ) → windows ≡ windowCount file → tags ≡ overwritten tags₀ (tagFile (numbersAt file) (windowCount file)) → pairOf (lookupPart (take (10 * windows) tags) first) (lookupPart (take (10 * windows) tags) second) ≡ pairOf (tagAt file first) (tagAt file second)
+pub pair-front : (file tags₀ tags : List ℕ) (windows first second : ℕ) → windows ≡ windowCount file → tags ≡ overwritten tags₀ (tagFile (numbersAt file) (windowCount file)) → pairAnswerOf (lookupPart (take (10 * windows) tags) first) (lookupPart (take (10 * windows) tags) second) ≡ pairAnswerOf (tagAt file first) (tagAt file second)
 unfolding tagAt tagLength fieldCount
 pair-front file tags₀ tags windows first second counted filled =
     let front : take (10 * windows) tags ≡ tagFile (numbersAt file) (windowCount file) = rw (counted, filled, ← length-tagFile (numbersAt file) (windowCount file)) (take-overwritten tags₀ (tagFile (numbersAt file) (windowCount file))) in
     rw front
 
 -- The answer from a plan and two positions, after each test.
-module _ (file : List ℕ) (first second : ℕ) (answer : Validation) (validated : answer ≡ validateOf file) where
+module _ (file : List ℕ) (first second : ℕ) (answer : Validation) (validated : answer ≡ validateAnswerOf file) where
   pub pair-refused : (refusal : Refusal) → answer ≡ Validation.Refused refusal → PairAnswer.Refused refusal ≡ pairFromPlan file first second
   unfolding pairFromPlan
   pair-refused = plan-refused file _ PairAnswer.Refused _ answer validated
@@ -71,7 +71,7 @@ module _ (file : List ℕ) (first second : ℕ) (answer : Validation) (validated
     named : windows ≡ windowCount file
     named = accepted-numbers file plan windows (sym e ∙ validated) .1
 
-    asked : firstNo (positionQuestion 0 first (windowCount file) ∷ positionQuestion 1 second (windowCount file) ∷ []) PairAnswer.Refused (pairOf (tagAt file first) (tagAt file second)) ≡ pairFromPlan file first second
+    asked : firstNo (positionQuestion 0 first (windowCount file) ∷ positionQuestion 1 second (windowCount file) ∷ []) PairAnswer.Refused (pairAnswerOf (tagAt file first) (tagAt file second)) ≡ pairFromPlan file first second
     unfolding pairFromPlan
     asked = plan-accepted file _ PairAnswer.Refused _ answer validated plan windows e
 
@@ -88,7 +88,7 @@ module _ (file : List ℕ) (first second : ℕ) (answer : Validation) (validated
         let t : ltb second (windowCount file) ≡ false = rw (← named) (le-ltb second windows beyond) in
         sym (rw (s, t)) ∙ asked
 
-    pub pair-answered : first < windows → second < windows → pairOf (tagAt file first) (tagAt file second) ≡ pairFromPlan file first second
+    pub pair-answered : first < windows → second < windows → pairAnswerOf (tagAt file first) (tagAt file second) ≡ pairFromPlan file first second
     unfolding positionQuestion question firstNo
     pair-answered within within′ =
         let s : ltb first (windowCount file) ≡ true = rw (← named) (lt-ltb first windows within) in
@@ -100,8 +100,8 @@ module _ (file : List ℕ) (ok : AcceptedPlan file) (u v : ℕ) (hu : u < window
   known : Counts file u v
   known = counts file ok u v hu hv
 
-  same : pair ≡ pairOf (tagAt file u) (tagAt file v)
-  same = paired ∙ sym (pair-answered file u v (validateOf file) refl _ _ ok hu hv)
+  same : pair ≡ pairAnswerOf (tagAt file u) (tagAt file v)
+  same = paired ∙ sym (pair-answered file u v (validateAnswerOf file) refl _ _ ok hu hv)
 
   -- A chain that was answered was found, and stands at the front of the table.
   entries-are : (entries : ℕ) → chain ≡ ChainAnswer.Chain entries → entries ≡ length (chainBetween file u v)

@@ -15,7 +15,7 @@ use Rattle.interval_graph.proofs.Bounds.{numbers-small}
 use Rattle.plan.specs.declared.questions.Validation.{Validation}
 use Rattle.plan.specs.File.{planNumber, windowCount}
 use Rattle.plan.specs.Overlap.{overlaps}
-use Rattle.plan.specs.Validation.{AcceptedPlan, validateOf}
+use Rattle.plan.specs.Validation.{AcceptedPlan, validateAnswerOf}
 use Rattle.plan.proofs.Accepted.{accepted-sound}
 use Rattle.plan.proofs.Overlap.{interval-order}
 use Rattle.tag.specs.Fields.{fieldCount, tagLength, fieldLimit, numbers, tagBytes, withinLimit}
@@ -25,7 +25,7 @@ use Rattle.tag.proofs.Writing.{tagBytes-read, written-reads-back, read-tagBytes
 use Rattle.tag.proofs.TagFile.{tagFile-lookup}
 use Rattle.tree.specs.declared.answers.BuildAnswer.the-variants as BuildAnswer
 use Rattle.tree.specs.Tables.{parentOf, componentOf, depthOf, rankOf, lastRankOf, componentCount, numbersAt}
-use Rattle.tree.specs.Build.{tablesFit, buildOf, afterBuild, afterTags}
+use Rattle.tree.specs.Build.{tablesFit, buildAnswerOf, afterBuild, afterTags}
 use Rattle.tree.proofs.Validated.{build-built}
 use Rattle.demands.specs.Tree.{tagAt, Built, Demand2}
 
@@ -49,8 +49,8 @@ built file ok p c d r l t fits =
       tags = λ before. rw answer;
     }
   where
-    answer : buildOf file p c d r l t ≡ BuildAnswer.Built (planNumber file) (windowCount file) (componentCount file)
-    answer = sym (build-built file (validateOf file) refl _ _ ok p c d r l t (componentCount file) fits refl)
+    answer : buildAnswerOf file p c d r l t ≡ BuildAnswer.Built (planNumber file) (windowCount file) (componentCount file)
+    answer = sym (build-built file (validateAnswerOf file) refl _ _ ok p c d r l t (componentCount file) fits refl)
 
 -- Room in each table is room in all.
 rooms : (n p c d r l t : ℕ) → n ≤ p → n ≤ c → n ≤ d → n ≤ r → n ≤ l → 10 * n ≤ t → tablesFit n p c d r l t ≡ true

@@ -1,42 +1,62 @@
--- Demand 3 of one call that is handed a file, two positions and a table for the chain.
--- Vocabulary: pairFromPlan, Answered.
-use Prim.Native.Nat.{ℕ, _≤_, _<_, max}
+-- Demand 3: for every accepted plan and every two windows, in either order and also one twice, the answer from the two tags alone is
+-- the least number of handovers; the chain from the plan has just that number and, at each step from the later window, the earliest
+-- window that any shortest chain has there; and "no chain" is said exactly when none joins them, from tags and plan alike.
+-- Vocabulary: Answered, tagAt, Demand3, pairFromPlan.
+use Prim.Native.Nat.{ℕ, suc, _<_, max}
 use mathlib.Core.Path.{_≡_}
 use mathlib.Core.Logic.{_↔_}
-use mathlib.Core.List.{List, [], _∷_, _++_}
+use mathlib.Core.List.{List, _++_}
 use lib.ListN.{length, take}
 use Rattle.interval_graph.specs.Chain.{firstEntry, handovers, Joined, LeastHandovers, EarliestShortest}
-use Rattle.wire.specs.Question.{firstNo}
+use Rattle.wire.specs.declared.Refusal.{Refusal}
+use Rattle.wire.specs.Question.{firstNo, positionQuestions}
 use Rattle.plan.specs.File.{windowCount}
 use Rattle.plan.specs.Overlap.{overlaps}
-use Rattle.plan.specs.Validation.{planQuestions}
-use Rattle.tag.specs.declared.pairing.PairAnswer.{PairAnswer}
-use Rattle.tag.specs.declared.pairing.PairAnswer.the-variants as PairAnswer
-use Rattle.tag.specs.Pairs.{pairOf}
+use Rattle.plan.specs.Validation.{planQuestions, AcceptedPlan}
+use Rattle.tag.specs.declared.pairs.PairAnswer.{PairAnswer}
+use Rattle.tag.specs.declared.pairs.PairAnswer.the-variants as PairAnswer
+use Rattle.tag.specs.TagFile.{tagFile, lookupPart}
+use Rattle.tag.specs.Pairing.{pairAnswerOf}
+use Rattle.tree.specs.Tables.{numbersAt}
 use Rattle.path.specs.declared.answers.ChainAnswer.{ChainAnswer}
 use Rattle.path.specs.declared.answers.ChainAnswer.the-variants as ChainAnswer
-use Rattle.path.specs.Questions.{positionQuestion}
-use Rattle.demands.specs.Tree.{tagAt}
+use Rattle.path.specs.Chain.{chainBetween, chainAnswerOf, afterChain}
 
--- The answer from the tags of the windows at two positions, after questions 1 to 6 and 7.
-unfoldable pub pairFromPlan : List ℕ → ℕ → ℕ → PairAnswer
-pairFromPlan file first second =
-    firstNo
-    (planQuestions 0 file ++ (positionQuestion 0 first (windowCount file) ∷ positionQuestion 1 second (windowCount file) ∷ []))
-    PairAnswer.Refused
-    (pairOf (tagAt file first) (tagAt file second))
-
--- Demand 3, of the answers given and of the table afterwards.
+-- What is answered of the windows u and v of a file: the answer from their tags, the answer of chain, and its table afterwards.
 pub record Answered (file : List ℕ) (u v : ℕ) (pair : PairAnswer) (chain : ChainAnswer) (out : List ℕ) : Type 0 where
-  -- "the answer from the two tags alone is the least number of handovers"
+  -- A number of handovers is answered exactly if it is the least: some chain has it, none has fewer.
   pub counted : (k : ℕ) → (pair ≡ PairAnswer.Handovers k) ↔ LeastHandovers (windowCount file) (overlaps file) u v k
-  -- "the chain from the plan has just that number"
-  pub chain-counted : (entries k : ℕ) → chain ≡ ChainAnswer.Chain entries → pair ≡ PairAnswer.Handovers k → handovers (take entries out) ≡ k
-  -- "and, at each step from the later window, the earliest window that any shortest chain has there"
-  pub chain-earliest : (entries : ℕ) → chain ≡ ChainAnswer.Chain entries → EarliestShortest (windowCount file) (overlaps file) u v (take entries out)
+  -- Where a chain joins them, some number is answered.
+  pub count-given : Joined (windowCount file) (overlaps file) u v → (k : ℕ) × (pair ≡ PairAnswer.Handovers k)
+  -- Two tags of one plan are never refused.
+  pub not-refused : (r : Refusal) → pair ≡ PairAnswer.Refused r → ⊥
+  -- The chain is given in every table that holds it. It has that number,
+  pub chain-given : (k : ℕ) → pair ≡ PairAnswer.Handovers k → k < length out → chain ≡ ChainAnswer.Chain (suc k)
+  pub chain-counted :
+      (entries k : ℕ) → chain ≡ ChainAnswer.Chain entries → pair ≡ PairAnswer.Handovers k → handovers (take entries out) ≡ k
+  -- begins with the later window, and has at each step the earliest window that any shortest chain has there.
   pub chain-from-later : (entries : ℕ) → chain ≡ ChainAnswer.Chain entries → firstEntry (take entries out) ≡ max u v
-  -- A table of 2,048 entries holds every chain.
-  pub chain-given : 2048 ≤ length out → Joined (windowCount file) (overlaps file) u v → (entries : ℕ) × (chain ≡ ChainAnswer.Chain entries)
-  -- "'no chain' exactly when none joins them, from tags and plan alike"
+  pub chain-earliest :
+      (entries : ℕ) → chain ≡ ChainAnswer.Chain entries → EarliestShortest (windowCount file) (overlaps file) u v (take entries out)
+  -- "No chain" exactly when none joins them.
   pub tags-apart : (pair ≡ PairAnswer.NoChain) ↔ (Joined (windowCount file) (overlaps file) u v → ⊥)
   pub plan-apart : (chain ≡ ChainAnswer.NoChain) ↔ (Joined (windowCount file) (overlaps file) u v → ⊥)
+
+-- "In demand 3 the tag of a window is the five numbers that build's tag file holds for its position, written as ten bytes":
+-- the part of build's tag file that a lookup of the position hands back.
+unfoldable pub tagAt : List ℕ → ℕ → List ℕ
+tagAt file v = lookupPart (tagFile (numbersAt file) (windowCount file)) v
+
+-- Of what the calls answer: the pair call on the two tags, and chain with any table.
+abbrev pub Demand3 : Type 0
+Demand3 =
+    (file : List ℕ) → AcceptedPlan file → (u v : ℕ) → u < windowCount file → v < windowCount file → (before : List ℕ) →
+    Answered file u v (pairAnswerOf (tagAt file u) (tagAt file v)) (chainAnswerOf file u v (length before))
+    (afterChain (chainAnswerOf file u v (length before)) (chainBetween file u v) before)
+
+-- And of one call that is handed a file, two positions and a table: the answer from the tags of the windows there, after questions 1
+-- to 6 and 7. (`demands::answer_all` has `Answered` in its contract.)
+unfoldable pub pairFromPlan : List ℕ → (first second : ℕ) → PairAnswer
+pairFromPlan file first second =
+    firstNo (planQuestions file ++ positionQuestions first second (windowCount file)) PairAnswer.Refused
+    (pairAnswerOf (tagAt file first) (tagAt file second))

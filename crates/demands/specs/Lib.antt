@@ -1,13 +1,29 @@
--- What the whole guarantees, over the definitions that the contracts cite. In reading order:
---   Refusals   demand 1: what breaks a rule is refused, nothing else is, and nothing lent is altered
---   Tree       demand 2: the tree and the tags are paper 01's, and tags survive being written and read
---   Counts     demand 3: counts, chains and "no chain", from tags and from the plan
---   EndToEnd   demand 3 of one call that runs validation, build, lookup, pair and chain
---   Sameness   sameness of two plans by their tags
---   Cases      paper 01's cases marked P, as one table
-pub mod Refusals
-pub mod Tree
-pub mod Counts
+-- What the whole guarantees: each demand as a statement over the definitions that the contracts cite. The statements are proved in
+-- proofs/, under the same file names.
+--
+-- The notation:
+--   (x : A) → B        for every x in A, B; where B is no statement, a function from A to B
+--   (x : A) × B        some x in A, and B of it; without a name, A × B: A and B
+--   A ↔ B              A exactly if B. A ⊎ B: A or B. A → ⊥: not A
+--   a ≡ b              a equals b
+--   record R where …   R holds exactly if each of its fields, the lines below it, does
+--   x ∷ l, l ++ m      the list l with x in front of it; the list l and then m. [] is the empty list
+--   ℕ                  the numbers 0, 1, 2, …; a difference that would lie below 0 is 0. Files, tags and tables are lists of them
+--   module _ (x : A) where        all that is indented below it takes x as its first argument
+--   abbrev, unfoldable, pub       say how proofs may use a definition, and nothing of what it means
+--   f .g               the field g of f. Names such as PairAnswer.NoChain are the answers of the code's own enums
+--
+-- What to read, in this order, and what it rests on:
+--   EndToEnd  demand 3, of a call that runs all of it. It rests on chains (interval_graph/specs/Chain), windows and their bytes
+--             (plan/specs/File, wire/specs/LittleEndian), overlap (plan/specs/Overlap) and acceptance (plan/specs/Validation,
+--             wire/specs/Question), and on nothing else: tree, tags, rule and walk need no belief, since this is proved of them
+--   Tree      demand 2. It rests also on interval_graph/specs/{Forest, Tree}, up to rank, on sequences/specs and on tag/specs/Fields
+--   Refusals  demand 1. It rests on the questions of each call: …Questions in plan, tag, tree and path
+--   Calls     what paper 01 says of reach, of sameness and of equal tags
+--   Cases     paper 01's cases marked P, as one table
+-- Merely named, and proved right: sizes and starts (Forest), Walk, Numbers (the rule on two tags), boundOf (Overlap).
 pub mod EndToEnd
-pub mod Sameness
+pub mod Tree
+pub mod Refusals
+pub mod Calls
 pub mod Cases

@@ -1,8 +1,6 @@
--- Demand 1. "A plan file, position, table or tag that breaks a rule of paper 01 is refused with the number, input and position
--- given there, and everything lent stays untouched. Nothing else is refused. Every public call takes every input and
--- returns."
--- (That every call takes every input and returns is what its proof says: no public call has a `requires`, and a proved
--- function ends.)
+-- Demand 1: a plan file, position, table or tag that breaks a rule of paper 01 is refused with the number, input and position given
+-- there, and everything lent stays untouched; nothing else is refused; every public call takes every input and returns. (That it does
+-- is what its proof says: no public call has a `requires`, and a proved function ends.)
 -- Vocabulary: FirstNo, Refuses, Demand1.
 use Prim.Native.Nat.{ℕ}
 use mathlib.Core.Bool.{true, false}
@@ -15,19 +13,19 @@ use Rattle.wire.specs.declared.Refusal.{Refusal}
 use Rattle.wire.specs.Question.{Question}
 use Rattle.plan.specs.declared.questions.Validation.the-variants as Validation
 use Rattle.plan.specs.File.{windowCount}
-use Rattle.plan.specs.Validation.{planQuestions, validateOf}
-use Rattle.tag.specs.declared.tags.TagRead.the-variants as TagRead
+use Rattle.plan.specs.Validation.{planQuestions, validateAnswerOf}
+use Rattle.tag.specs.declared.reader.TagRead.the-variants as TagRead
 use Rattle.tag.specs.declared.writer.WriteAnswer.the-variants as WriteAnswer
-use Rattle.tag.specs.declared.lookups.LookupAnswer.the-variants as LookupAnswer
-use Rattle.tag.specs.declared.pairing.PairAnswer.the-variants as PairAnswer
-use Rattle.tag.specs.Reading.{readQuestions, readOf}
-use Rattle.tag.specs.Writing.{writeQuestions, writeOf, afterWrite}
-use Rattle.tag.specs.TagFile.{lookupQuestions, lookupOf}
-use Rattle.tag.specs.Pairs.{pairQuestions, pairOf}
+use Rattle.tag.specs.declared.tag_file.LookupAnswer.the-variants as LookupAnswer
+use Rattle.tag.specs.declared.pairs.PairAnswer.the-variants as PairAnswer
+use Rattle.tag.specs.Reading.{readQuestions, readAnswerOf}
+use Rattle.tag.specs.Writing.{writeQuestions, writeAnswerOf, afterWrite}
+use Rattle.tag.specs.TagFile.{lookupQuestions, lookupAnswerOf}
+use Rattle.tag.specs.Pairing.{pairQuestions, pairAnswerOf}
 use Rattle.tree.specs.declared.answers.BuildAnswer.the-variants as BuildAnswer
 use Rattle.tree.specs.declared.answers.ReachAnswer.the-variants as ReachAnswer
-use Rattle.tree.specs.Build.{buildQuestions, buildOf, afterBuild, afterTags}
-use Rattle.tree.specs.ReachCall.{reachQuestions, reachOf}
+use Rattle.tree.specs.Build.{buildQuestions, buildAnswerOf, afterBuild, afterTags}
+use Rattle.tree.specs.ReachCall.{reachQuestions, reachAnswerOf}
 use Rattle.path.specs.declared.answers.ChainAnswer.the-variants as ChainAnswer
 use Rattle.path.specs.declared.answers.NeighboursAnswer.the-variants as NeighboursAnswer
 use Rattle.path.specs.declared.answers.SameAnswer.the-variants as SameAnswer
@@ -45,20 +43,38 @@ abbrev pub Refuses : {A : Type 0} → List Question → (Refusal → A) → A �
 Refuses questions refused answer = (r : Refusal) → (answer ≡ refused r) ↔ FirstNo questions r
 
 pub record Demand1 : Type 0 where
-  -- Each call refuses exactly what its questions do, with their number, input and position.
-  pub validating : (file : List ℕ) → Refuses (planQuestions 0 file) Validation.Refused (validateOf file)
-  pub building : (file : List ℕ) (p c d r l t : ℕ) → Refuses (buildQuestions file p c d r l t) BuildAnswer.Refused (buildOf file p c d r l t)
-  pub reaching : (file : List ℕ) (at : ℕ) → Refuses (reachQuestions file at) ReachAnswer.Refused (reachOf file at)
-  pub chaining : (file : List ℕ) (first second room : ℕ) → Refuses (planQuestions 0 file ++ chainQuestions (windowCount file) first second (chainBetween file first second) room) ChainAnswer.Refused (chainAnswerOf file first second room)
-  pub neighbouring : (file : List ℕ) (at room : ℕ) → Refuses (planQuestions 0 file ++ neighboursQuestions (windowCount file) at (length (neighboursOf file at)) room) NeighboursAnswer.Refused (neighboursAnswerOf file at room)
-  pub comparing : (first second : List ℕ) → Refuses (planQuestions 0 first ++ planQuestions 1 second) SameAnswer.Refused (sameAnswerOf first second)
-  pub reading : (bytes : List ℕ) → Refuses (readQuestions 0 bytes) TagRead.Refused (readOf bytes)
-  pub writing : (n : Numbers) (out : List ℕ) → Refuses (writeQuestions n out) WriteAnswer.Refused (writeOf n out)
-  pub looking-up : (tags : List ℕ) (at : ℕ) → Refuses (lookupQuestions tags at) LookupAnswer.Refused (lookupOf tags at)
-  pub pairing : (first second : List ℕ) → Refuses (pairQuestions first second) PairAnswer.Refused (pairOf first second)
+  -- Each call refuses exactly what its questions do, with their number, input and position. On a plan:
+  pub validating : (file : List ℕ) → Refuses (planQuestions file) Validation.Refused (validateAnswerOf file)
+  pub building :
+      (file : List ℕ) (parents components depths ranks lastRanks tags : ℕ) →
+      Refuses (buildQuestions file parents components depths ranks lastRanks tags) BuildAnswer.Refused
+      (buildAnswerOf file parents components depths ranks lastRanks tags)
+  pub tagging : (file : List ℕ) (room : ℕ) → Refuses (tagsQuestions file room) BuildAnswer.Refused (tagsAnswerOf file room)
+  -- (this one is that of the parent table and of the last table)
+  pub tabling : (file : List ℕ) (room : ℕ) → Refuses (tableQuestions file room) TableAnswer.Refused (tableAnswerOf file room)
+  pub reaching : (file : List ℕ) (at : ℕ) → Refuses (reachQuestions file at) ReachAnswer.Refused (reachAnswerOf file at)
+  pub chaining :
+      (file : List ℕ) (first second room : ℕ) →
+      Refuses (chainQuestions file first second room) ChainAnswer.Refused (chainAnswerOf file first second room)
+  pub neighbouring :
+      (file : List ℕ) (at room : ℕ) →
+      Refuses (neighboursQuestions file at room) NeighboursAnswer.Refused (neighboursAnswerOf file at room)
+  pub comparing : (first second : List ℕ) → Refuses (sameQuestions first second) SameAnswer.Refused (sameAnswerOf first second)
+  -- On tags:
+  pub reading : (bytes : List ℕ) → Refuses (readQuestions bytes) TagRead.Refused (readAnswerOf bytes)
+  pub writing : (n : Numbers) (out : List ℕ) → Refuses (writeQuestions n out) WriteAnswer.Refused (writeAnswerOf n out)
+  pub looking-up : (tags : List ℕ) (at : ℕ) → Refuses (lookupQuestions tags at) LookupAnswer.Refused (lookupAnswerOf tags at)
+  pub pairing : (first second : List ℕ) → Refuses (pairQuestions first second) PairAnswer.Refused (pairAnswerOf first second)
+  pub pairing-at :
+      (tags : List ℕ) (first second : ℕ) →
+      Refuses (pairAtQuestions tags first second) PairAnswer.Refused (pairAtAnswerOf tags first second)
   -- A refusal leaves every lent table as it was.
   pub build-untouched : (r : Refusal) (f : ℕ → ℕ) (before : List ℕ) → afterBuild (BuildAnswer.Refused r) f before ≡ before
   pub tags-untouched : (r : Refusal) (f : ℕ → Numbers) (before : List ℕ) → afterTags (BuildAnswer.Refused r) f before ≡ before
+  pub table-untouched : (r : Refusal) (f : ℕ → ℕ) (before : List ℕ) → afterTable (TableAnswer.Refused r) f before ≡ before
   pub chain-untouched : (r : Refusal) (chain before : List ℕ) → afterChain (ChainAnswer.Refused r) chain before ≡ before
-  pub neighbours-untouched : (r : Refusal) (neighbours before : List ℕ) → afterNeighbours (NeighboursAnswer.Refused r) neighbours before ≡ before
+  pub neighbours-untouched :
+      (r : Refusal) (neighbours before : List ℕ) → afterNeighbours (NeighboursAnswer.Refused r) neighbours before ≡ before
   pub write-untouched : (r : Refusal) (n : Numbers) (before : List ℕ) → afterWrite (WriteAnswer.Refused r) n before ≡ before
+  -- "A refused lookup hands back an empty part".
+  pub lookup-empty : (tags : List ℕ) (at : ℕ) (r : Refusal) → lookupAnswerOf tags at ≡ LookupAnswer.Refused r → lookupPart tags at ≡ []

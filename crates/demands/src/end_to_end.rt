@@ -10,7 +10,7 @@ ghost use lib.ListN.{length};
 ghost use Rattle.sequences.specs.Table.{overwritten};
 ghost use Rattle.plan.specs.File.{windowCount};
 ghost use Rattle.plan.specs.Validation.{AcceptedPlan};
-ghost use Rattle.tag.specs.Pairs.{pairOf};
+ghost use Rattle.tag.specs.Pairing.{pairAnswerOf};
 ghost use Rattle.tag.specs.TagFile.{lookupPart, tagFile};
 ghost use Rattle.tree.specs.Tables.{numbersAt};
 ghost use Rattle.path.specs.Chain.{chainBetween, chainAnswerOf, afterChain};
@@ -26,7 +26,7 @@ pub struct Answers {
 
 // What two readers say who look their tags up in a tag file.
 fn pair_at(tags: &[u8], first: usize, second: usize) -> PairAnswer
-    ensures { λ r. ⌜ r ≡ pairOf (lookupPart (now (tags .entry)) first) (lookupPart (now (tags .entry)) second) ⌝ }
+    ensures { λ r. ⌜ r ≡ pairAnswerOf (lookupPart (now (tags .entry)) first) (lookupPart (now (tags .entry)) second) ⌝ }
 {
     tag::pair(tag::lookup(tags, first), tag::lookup(tags, second))
 }
@@ -57,7 +57,7 @@ fn fill_tags(file: &[u8], tags: &mut [u8])
 fn pair_from_tags(file: &[u8], windows: usize, first: usize, second: usize) -> PairAnswer
     requires { ⌜ AcceptedPlan (now file) ⌝ }
     requires { ⌜ windows ≡ windowCount (now file) ⌝ }
-    ensures { λ r. ⌜ r ≡ pairOf (tagAt (now (file .entry)) first) (tagAt (now (file .entry)) second) ⌝ }
+    ensures { λ r. ⌜ r ≡ pairAnswerOf (tagAt (now (file .entry)) first) (tagAt (now (file .entry)) second) ⌝ }
 {
     let mut tags = [0; 20480];
     fill_tags(file, &mut tags);

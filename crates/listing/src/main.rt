@@ -1,17 +1,19 @@
 // The listing of the plan file on standard input: `PLAN WINDOWS COMPONENTS`, and a row for each window with its position,
 // parent, component, depth, rank and rank of the last; or `refused NUMBER POSITION`.
+mod rows;
+
 use libc::STDIN_FILENO;
-use libc::STDOUT_FILENO;
+use plan::GREATEST_COUNT;
 
 fn main() {
     // One byte more than any plan, so that a file that is too long is seen to be.
     let mut file = [0; 16389];
     let read = io::read_full(STDIN_FILENO, &mut file);
-    let mut parents = [0; 2048];
-    let mut components = [0; 2048];
-    let mut depths = [0; 2048];
-    let mut ranks = [0; 2048];
-    let mut last_ranks = [0; 2048];
+    let mut parents = [0; GREATEST_COUNT];
+    let mut components = [0; GREATEST_COUNT];
+    let mut depths = [0; GREATEST_COUNT];
+    let mut ranks = [0; GREATEST_COUNT];
+    let mut last_ranks = [0; GREATEST_COUNT];
     let mut tags = [0; 20480];
     let answer = tree::build(
         &file[..read],
@@ -22,13 +24,6 @@ fn main() {
         &mut last_ranks,
         &mut tags,
     );
-    report::print_listing(
-        STDOUT_FILENO,
-        answer,
-        &parents,
-        &components,
-        &depths,
-        &ranks,
-        &last_ranks,
-    );
+    let windows = rows::print_answer(answer);
+    rows::print_rows(windows, &parents, &components, &depths, &ranks, &last_ranks);
 }

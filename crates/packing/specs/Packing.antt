@@ -17,10 +17,10 @@ use Rattle.path.specs.declared.answers.NeighboursAnswer.{NeighboursAnswer}
 use Rattle.path.specs.declared.answers.NeighboursAnswer.the-variants as neighbours
 use Rattle.path.specs.declared.answers.SameAnswer.{SameAnswer}
 use Rattle.path.specs.declared.answers.SameAnswer.the-variants as same
-use Rattle.tag.specs.declared.pairing.PairAnswer.{PairAnswer}
-use Rattle.tag.specs.declared.pairing.PairAnswer.the-variants as pair
-use Rattle.tag.specs.declared.lookups.LookupAnswer.{LookupAnswer}
-use Rattle.tag.specs.declared.lookups.LookupAnswer.the-variants as lookup
+use Rattle.tag.specs.declared.pairs.PairAnswer.{PairAnswer}
+use Rattle.tag.specs.declared.pairs.PairAnswer.the-variants as pair
+use Rattle.tag.specs.declared.tag_file.LookupAnswer.{LookupAnswer}
+use Rattle.tag.specs.declared.tag_file.LookupAnswer.the-variants as lookup
 use Rattle.tag.specs.declared.writer.WriteAnswer.{WriteAnswer}
 use Rattle.tag.specs.declared.writer.WriteAnswer.the-variants as write
 

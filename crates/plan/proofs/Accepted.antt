@@ -17,19 +17,19 @@ use Rattle.plan.specs.declared.windows.Window.{Window}
 use Rattle.plan.specs.declared.questions.Validation.{Validation}
 use Rattle.plan.specs.declared.questions.Validation.the-variants.{Accepted, Refused}
 use Rattle.plan.specs.File.{headerLength, windowLength, windowPlace, fileLength, planNumber, windowCount, windowAt, endOf}
-use Rattle.plan.specs.Validation.{greatestCount, greatestEnd, offsetBefore, windowQuestions, fileQuestions, planQuestions, AcceptedPlan, validateOf}
+use Rattle.plan.specs.Validation.{greatestCount, greatestEnd, offsetBefore, windowQuestions, fileQuestions, planQuestions, AcceptedPlan, validateAnswerOf}
 use Rattle.plan.proofs.Validation.{windowsAsked}
 
 -- Acceptance is what `validate` answers.
 refused-not-accepted : (plan n : ℕ) (r : Refusal) → Refused r ≡ Accepted plan n → ⊥
 refused-not-accepted plan n r e = let z : _≡_ {A = ℕ} 0 1 = cc in omega arith
 
-pub accepted-validated : (file : List ℕ) → AcceptedPlan file → validateOf file ≡ Accepted (planNumber file) (windowCount file)
-unfolding validateOf
+pub accepted-validated : (file : List ℕ) → AcceptedPlan file → validateAnswerOf file ≡ Accepted (planNumber file) (windowCount file)
+unfolding validateAnswerOf
 accepted-validated file ok = all-first (planQuestions file) Refused _ ok
 
-pub validated-accepted : (file : List ℕ) → validateOf file ≡ Accepted (planNumber file) (windowCount file) → AcceptedPlan file
-unfolding validateOf
+pub validated-accepted : (file : List ℕ) → validateAnswerOf file ≡ Accepted (planNumber file) (windowCount file) → AcceptedPlan file
+unfolding validateAnswerOf
 validated-accepted file e =
     first-all (planQuestions file) Refused _ (refused-not-accepted (planNumber file) (windowCount file)) e
 

@@ -12,7 +12,7 @@ use Rattle.wire.proofs.Question.{first-yes, first-no, first-append, first-from,
 use Rattle.plan.specs.declared.questions.Validation.{Validation}
 use Rattle.plan.specs.declared.questions.Validation.the-variants.{Accepted, Refused}
 use Rattle.plan.specs.File.{planNumber, windowCount}
-use Rattle.plan.specs.Validation.{planQuestions, validateOf, AcceptedPlan}
+use Rattle.plan.specs.Validation.{planQuestions, validateAnswerOf, AcceptedPlan}
 use Rattle.plan.proofs.Accepted.{validated-accepted}
 
 -- What a call answers after a validation: its refusal, or what is asked next.
@@ -21,27 +21,27 @@ afterValidation (Accepted plan windows) refused next = next
 afterValidation (Refused refusal) refused next = refused refusal
 
 -- The questions of a plan, and then others: the validation's answer, and then theirs.
-pub plan-first : {A : Type 0} (file : List ℕ) (more : List Question) (refused : Refusal → A) (accepted : A) → firstNo (planQuestions file ++ more) refused accepted ≡ afterValidation (validateOf file) refused (firstNo more refused accepted)
-unfolding validateOf
+pub plan-first : {A : Type 0} (file : List ℕ) (more : List Question) (refused : Refusal → A) (accepted : A) → firstNo (planQuestions file ++ more) refused accepted ≡ afterValidation (validateAnswerOf file) refused (firstNo more refused accepted)
+unfolding validateAnswerOf
 plan-first file more refused accepted =
     first-append (planQuestions file) more refused accepted
     ∙ sym (first-map (λ v. afterValidation v refused (firstNo more refused accepted)) (planQuestions file) Refused (Accepted (planNumber file) (windowCount file)))
 
 -- A validation that is accepted is so with the file's own numbers.
-pub accepted-numbers : (file : List ℕ) (plan windows : ℕ) → Accepted plan windows ≡ validateOf file → (plan ≡ planNumber file) × (windows ≡ windowCount file)
-unfolding validateOf
+pub accepted-numbers : (file : List ℕ) (plan windows : ℕ) → Accepted plan windows ≡ validateAnswerOf file → (plan ≡ planNumber file) × (windows ≡ windowCount file)
+unfolding validateAnswerOf
 accepted-numbers file plan windows e =
     ⊎-elim (λ same. (cc, cc)) (λ refusal. let z : _≡_ {A = ℕ} 0 1 = cc in absurd (omega arith))
     (first-cases (planQuestions file) Refused (Accepted (planNumber file) (windowCount file)))
 
 -- So the file is that of an accepted plan.
-pub accepted-plan : (file : List ℕ) (plan windows : ℕ) → Accepted plan windows ≡ validateOf file → AcceptedPlan file
+pub accepted-plan : (file : List ℕ) (plan windows : ℕ) → Accepted plan windows ≡ validateAnswerOf file → AcceptedPlan file
 accepted-plan file plan windows e =
     let numbers = accepted-numbers file plan windows e in
     validated-accepted file (sym e ∙ cc)
 
 -- The answer of a call that validates first and then asks more, by what the validation answered.
-module _ {A : Type 0} (file : List ℕ) (more : List Question) (refused : Refusal → A) (accepted : A) (answer : Validation) (validated : answer ≡ validateOf file) where
+module _ {A : Type 0} (file : List ℕ) (more : List Question) (refused : Refusal → A) (accepted : A) (answer : Validation) (validated : answer ≡ validateAnswerOf file) where
   pub plan-refused : (refusal : Refusal) → answer ≡ Refused refusal → refused refusal ≡ firstNo (planQuestions file ++ more) refused accepted
   plan-refused refusal e = sym (plan-first file more refused accepted ∙ rw (← validated, e))
 
@@ -49,7 +49,7 @@ module _ {A : Type 0} (file : List ℕ) (more : List Question) (refused : Refusa
   plan-accepted plan windows e = sym (plan-first file more refused accepted ∙ rw (← validated, e))
 
 -- The same where one question more is asked.
-module _ {A : Type 0} (file : List ℕ) (q : Question) (refused : Refusal → A) (accepted : A) (answer : Validation) (validated : answer ≡ validateOf file) (plan windows : ℕ) (e : answer ≡ Accepted plan windows) where
+module _ {A : Type 0} (file : List ℕ) (q : Question) (refused : Refusal → A) (accepted : A) (answer : Validation) (validated : answer ≡ validateAnswerOf file) (plan windows : ℕ) (e : answer ≡ Accepted plan windows) where
   pub one-more-no : q .yes ≡ false → refused (q .refusal) ≡ firstNo (planQuestions file ++ (q ∷ [])) refused accepted
   one-more-no t =
       sym (first-no [] refused accepted q t) ∙ plan-accepted file (q ∷ []) refused accepted answer validated plan windows e
@@ -60,8 +60,8 @@ module _ {A : Type 0} (file : List ℕ) (q : Question) (refused : Refusal → A)
       sym (first-yes [] refused accepted q t) ∙ plan-accepted file (q ∷ []) refused accepted answer validated plan windows e
 
 -- The questions to a call's second file are answered by its validation, with the second input at fault.
-pub plan-second : {A : Type 0} (file : List ℕ) (refused : Refusal → A) (accepted : A) → firstNo (from 1 (planQuestions file)) refused accepted ≡ afterValidation (validateOf file) (λ r. refused (refusalFrom 1 r)) accepted
-unfolding validateOf
+pub plan-second : {A : Type 0} (file : List ℕ) (refused : Refusal → A) (accepted : A) → firstNo (from 1 (planQuestions file)) refused accepted ≡ afterValidation (validateAnswerOf file) (λ r. refused (refusalFrom 1 r)) accepted
+unfolding validateAnswerOf
 plan-second file refused accepted =
     first-from 1 (planQuestions file) refused accepted
     ∙ sym (first-map (λ v. afterValidation v (λ r. refused (refusalFrom 1 r)) accepted) (planQuestions file) Refused (Accepted (planNumber file) (windowCount file)))

@@ -17,7 +17,7 @@ use Rattle.sequences.proofs.Tests.{tests, truth, lt-or-ge, and-left, and-right,
 use Rattle.interval_graph.specs.Order.{IntervalOrder}
 use Rattle.plan.specs.declared.windows.Window.{Window}
 use Rattle.plan.specs.File.{windowCount, windowAt, endOf}
-use Rattle.plan.specs.Overlap.{covers, sharedMinutes, minimumHandover, overlaps, boundOf}
+use Rattle.plan.specs.Overlap.{covers, sharedMinutes, minimumHandover, overlaps, boundOf, overlapInOrder}
 use Rattle.plan.specs.Validation.{AcceptedPlan}
 use Rattle.plan.proofs.Accepted.{Sound, accepted-sound, offsets-sorted}
 
@@ -85,8 +85,8 @@ overlaps-shares file u v = (shares, meet)
         (omega (arith, shared-minutes a b, covers-minute a (h .1 .0) (h .1 .1), covers-minute b (h .1 .0) (h .1 .2)))
 
 -- In an accepted plan, for u before v: v begins before the bound of u.
-pub overlaps-bound : (file : List ℕ) → AcceptedPlan file → (u v : ℕ) → u < v → v < windowCount file → overlaps file u v ≡ ltb (windowAt file v .offset) (boundOf (windowAt file u))
-unfolding boundOf endOf
+pub overlaps-bound : (file : List ℕ) → AcceptedPlan file → (u v : ℕ) → u < v → v < windowCount file → overlaps file u v ≡ overlapInOrder (windowAt file u) (windowAt file v)
+unfolding overlapInOrder boundOf endOf
 overlaps-bound file ok u v before within =
     iff-equal (overlaps file u v) (ltb (b .offset) (boundOf a))
     (λ t. lt-ltb (b .offset) (boundOf a) (omega (arith, overlaps-minimum file u v t .1, shared-minutes a b)))
@@ -107,7 +107,7 @@ overlaps-bound file ok u v before within =
 
 -- "For u before v this means: end of u is greater than offset of v", in an accepted plan.
 pub overlaps-end : (file : List ℕ) → AcceptedPlan file → (u v : ℕ) → u < v → v < windowCount file → overlaps file u v ≡ ltb (windowAt file v .offset) (endOf (windowAt file u))
-unfolding boundOf
+unfolding overlapInOrder boundOf
 overlaps-end file ok u v before within =
     let e : boundOf (windowAt file u) ≡ endOf (windowAt file u) = omega arith in
     overlaps-bound file ok u v before within ∙ rw e
@@ -120,6 +120,7 @@ touching-apart file u v e =
 
 -- The overlap of an accepted plan is in interval order.
 pub interval-order : (file : List ℕ) → AcceptedPlan file → IntervalOrder (windowCount file) (overlaps file)
+unfolding overlapInOrder
 interval-order file ok =
     record {
       symmetric = λ u v. iff-equal _ _ (turned u v) (turned v u);

@@ -12,7 +12,7 @@ use Rattle.plan.specs.declared.windows.Window.{Window}
 use Rattle.plan.specs.declared.questions.Validation.the-variants.{Accepted, Refused}
 use Rattle.plan.specs.File.{planNumber, windowCount, windowOf, windowAt, endOf, windowBytes, fileOf}
 use Rattle.plan.specs.Overlap.{covers, sharedMinutes, overlaps}
-use Rattle.plan.specs.Validation.{offsetBefore, windowQuestions, fileQuestions, planQuestions, validateOf}
+use Rattle.plan.specs.Validation.{offsetBefore, windowQuestions, fileQuestions, planQuestions, validateAnswerOf}
 
 abbrev window : ℕ → ℕ → Window
 window offset length = record { offset = offset; length = length }
@@ -23,10 +23,10 @@ file = fileOf 12 (window 0 10 ∷ window 2 3 ∷ window 4 12 ∷ window 9 2 ∷ 
 
 -- What a computation on the file opens.
 unfoldable pub meaning : Unit {0}
-unfolding definitions file fileOf flatMap windowBytes bytes16 bytes32 le16 le32 question about each firstNo planNumber windowCount windowOf windowAt endOf covers sharedMinutes overlaps offsetBefore windowQuestions fileQuestions planQuestions validateOf
+unfolding definitions file fileOf flatMap windowBytes bytes16 bytes32 le16 le32 question about each firstNo planNumber windowCount windowOf windowAt endOf covers sharedMinutes overlaps offsetBefore windowQuestions fileQuestions planQuestions validateAnswerOf
 meaning = tt
 
-pub plan-12-accepted : validateOf file ≡ Accepted 12 7
+pub plan-12-accepted : validateAnswerOf file ≡ Accepted 12 7
 unfolding meaning
 plan-12-accepted = refl
 
@@ -36,12 +36,12 @@ plan-12-tables = refl
 
 -- Each of questions 1 to 6 by a file that fails it: three bytes; 2,049 windows, also in a short file; a byte too many; length 0 with a
 -- falling offset; the sum 10,000,001; a falling offset. The second window is refused at position 1.
-pub refusals : validateOf (0 ∷ 0 ∷ 0 ∷ [])
-    ∷ validateOf (0 ∷ 0 ∷ 1 ∷ 8 ∷ [])
-    ∷ validateOf (0 ∷ 0 ∷ 0 ∷ 0 ∷ 0 ∷ [])
-    ∷ validateOf (fileOf 0 (window 5 5 ∷ window 4 0 ∷ []))
-    ∷ validateOf (fileOf 0 (window 10000000 1 ∷ []))
-    ∷ validateOf (fileOf 0 (window 5 5 ∷ window 4 5 ∷ []))
+pub refusals : validateAnswerOf (0 ∷ 0 ∷ 0 ∷ [])
+    ∷ validateAnswerOf (0 ∷ 0 ∷ 1 ∷ 8 ∷ [])
+    ∷ validateAnswerOf (0 ∷ 0 ∷ 0 ∷ 0 ∷ 0 ∷ [])
+    ∷ validateAnswerOf (fileOf 0 (window 5 5 ∷ window 4 0 ∷ []))
+    ∷ validateAnswerOf (fileOf 0 (window 10000000 1 ∷ []))
+    ∷ validateAnswerOf (fileOf 0 (window 5 5 ∷ window 4 5 ∷ []))
     ∷ []
     ≡ Refused (refusalBy 1)
     ∷ Refused (refusalBy 2)

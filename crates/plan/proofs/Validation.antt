@@ -17,7 +17,7 @@ use Rattle.plan.specs.declared.windows.Window.{Window}
 use Rattle.plan.specs.declared.questions.Validation.{Validation}
 use Rattle.plan.specs.declared.questions.Validation.the-variants.{Accepted, Refused}
 use Rattle.plan.specs.File.{headerLength, windowLength, fileLength, windowPlace, planNumber, windowCount, windowOf, windowAt, endOf}
-use Rattle.plan.specs.Validation.{greatestCount, greatestEnd, offsetBefore, windowQuestions, fileQuestions, planQuestions, validateOf}
+use Rattle.plan.specs.Validation.{greatestCount, greatestEnd, offsetBefore, windowQuestions, fileQuestions, planQuestions, validateAnswerOf}
 
 -- The window in the eight-byte part from the middle of the file is the window at its position.
 pub window-at : (file : List ℕ) (v : ℕ) (w : Window) → w ≡ windowOf (take (windowPlace v + windowLength - windowPlace v) (drop (windowPlace v) file)) → w ≡ windowAt file v
@@ -49,24 +49,24 @@ windowsAsked file v = windowQuestions (offsetBefore file v) (windowAt file v)
 
 -- The questions of the file as a whole, where n is the number of windows that it names.
 module _ (file : List ℕ) (n : ℕ) (named : n ≡ windowCount file) (header : headerLength ≤ length file) where
-  pub refused-2 : greatestCount < n → Refused (refusalBy 2) ≡ validateOf file
-  unfolding validateOf planQuestions fileQuestions firstNo question
+  pub refused-2 : greatestCount < n → Refused (refusalBy 2) ≡ validateAnswerOf file
+  unfolding validateAnswerOf planQuestions fileQuestions firstNo question
   refused-2 many = rw (← named, le-leb headerLength (length file) header, lt-leb n greatestCount many)
 
   module _ (few : n ≤ greatestCount) where
-    pub refused-3 : (length file ≡ fileLength n → ⊥) → Refused (refusalBy 3) ≡ validateOf file
-    unfolding validateOf planQuestions fileQuestions firstNo question
+    pub refused-3 : (length file ≡ fileLength n → ⊥) → Refused (refusalBy 3) ≡ validateAnswerOf file
+    unfolding validateAnswerOf planQuestions fileQuestions firstNo question
     refused-3 other =
         rw (← named, le-leb headerLength (length file) header, le-leb n greatestCount few, ne-eqb (length file) (fileLength n) other)
 
     -- Where they are all answered "yes", those of the windows give the answer.
-    pub windows-answer : (plan : ℕ) → plan ≡ planNumber file → length file ≡ fileLength n → firstNo (each (windowsAsked file) 0 n) Refused (Accepted plan n) ≡ validateOf file
-    unfolding validateOf planQuestions fileQuestions firstNo question
+    pub windows-answer : (plan : ℕ) → plan ≡ planNumber file → length file ≡ fileLength n → firstNo (each (windowsAsked file) 0 n) Refused (Accepted plan n) ≡ validateAnswerOf file
+    unfolding validateAnswerOf planQuestions fileQuestions firstNo question
     windows-answer plan number whole =
         rw (← named, ← number, le-leb headerLength (length file) header, le-leb n greatestCount few, eq-eqb (length file) (fileLength n) whole)
 
-pub refused-1 : (file : List ℕ) → length file < headerLength → Refused (refusalBy 1) ≡ validateOf file
-unfolding validateOf planQuestions fileQuestions firstNo question
+pub refused-1 : (file : List ℕ) → length file < headerLength → Refused (refusalBy 1) ≡ validateAnswerOf file
+unfolding validateAnswerOf planQuestions fileQuestions firstNo question
 refused-1 file short = rw (lt-leb headerLength (length file) short)
 
 -- The pass over the windows, before the window at a position: `before` is the offset of the window before it.

@@ -1,6 +1,6 @@
 -- Paper 01: "the window covers the minutes from its offset up to, not including, its end", and "Two different windows
 -- overlap when they share a minute."
--- Vocabulary: covers, sharedMinutes, minimumHandover, overlaps; boundOf.
+-- Vocabulary: covers, sharedMinutes, minimumHandover, overlaps; boundOf, overlapInOrder.
 use Prim.Native.Nat.{ℕ, _-_, max}
 use mathlib.Core.Bool.{Bool, not, _&&_}
 use mathlib.Core.List.{List}
@@ -24,7 +24,10 @@ minimumHandover = 1
 unfoldable pub overlaps : List ℕ → ℕ → ℕ → Bool
 overlaps file u v = not (eqb u v) && leb minimumHandover (sharedMinutes (windowAt file u) (windowAt file v))
 
--- Where a later window must begin before, to share enough minutes with this one. (Nothing here has to be believed: that it says
--- overlap is a law.)
+-- What follows need not be believed: how overlap is computed, of which `overlaps-bound` says that it is overlap.
+-- Where a later window must begin before, to share enough minutes with this one.
 unfoldable pub boundOf : Window → ℕ
 boundOf w = endOf w - (minimumHandover - 1)
+
+unfoldable pub overlapInOrder : (earlier later : Window) → Bool
+overlapInOrder earlier later = ltb (later .offset) (boundOf earlier)

@@ -1,6 +1,6 @@
 -- Paper 01, "Questions at the door", 1 to 6, and "Plan file": "A plan is accepted when its file meets no refusal in
 -- questions 1 to 6".
--- Vocabulary: greatestCount, greatestEnd, offsetBefore, windowQuestions, fileQuestions, planQuestions, AcceptedPlan, validateOf.
+-- Vocabulary: greatestCount, greatestEnd, offsetBefore, windowQuestions, fileQuestions, planQuestions, AcceptedPlan, validateAnswerOf.
 use Prim.Native.Nat.{ℕ, zero, suc}
 use mathlib.Core.Bool.{true}
 use mathlib.Core.Path.{_≡_}
@@ -52,5 +52,5 @@ module _ (file : List ℕ) where
   AcceptedPlan = allYes planQuestions ≡ true
 
   -- The answer for every file: the first "no", or accepted with the plan number and n.
-  unfoldable pub validateOf : Validation
-  validateOf = firstNo planQuestions Refused (Accepted (planNumber file) (windowCount file))
+  unfoldable pub validateAnswerOf : Validation
+  validateAnswerOf = firstNo planQuestions Refused (Accepted (planNumber file) (windowCount file))

@@ -10,6 +10,7 @@ pub use figures::WINDOW_LENGTH;
 pub use questions::Validation;
 pub use questions::validate;
 pub use windows::Window;
+pub use windows::overlap_in_order;
 pub use windows::read_window;
 pub use windows::window_bound;
 pub use windows::window_end;

@@ -13,7 +13,7 @@ ghost use Prim.Native.Nat.{_≤_};
 ghost use lib.ListN.{length};
 ghost use Rattle.wire.specs.Question.{each, askedOf, firstNo};
 ghost use Rattle.plan.specs.File.{fileLength, windowAt};
-ghost use Rattle.plan.specs.Validation.{greatestCount, offsetBefore, windowQuestions, validateOf};
+ghost use Rattle.plan.specs.Validation.{greatestCount, offsetBefore, windowQuestions, validateAnswerOf};
 
 pub enum Validation {
     // Every question is answered "yes": the plan number, and how many windows there are.
@@ -60,7 +60,7 @@ fn validate_windows(file: &[u8], plan: u16, windows: u16) -> Validation
 
 // Whether a file is that of an accepted plan.
 pub fn validate(file: &[u8]) -> Validation
-    ensures { λ r. ⌜ r ≡ validateOf (now (file .entry)) ⌝ }
+    ensures { λ r. ⌜ r ≡ validateAnswerOf (now (file .entry)) ⌝ }
 {
     if file.len() < HEADER_LENGTH {
         return Validation::Refused(Refusal::by(1));

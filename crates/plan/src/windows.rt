@@ -1,9 +1,9 @@
-// A window of a plan file, read and written, its end, and what a later window that overlaps it begins before.
+// A window of a plan file, read and written, its end, and when it overlaps a later one.
 use crate::figures::WINDOW_LENGTH;
 ghost use mathlib.Core.Path.{_≡_};
 ghost use Rattle.wire.specs.LittleEndian.{placed};
 ghost use Rattle.plan.specs.File.{windowOf, windowBytes, endOf};
-ghost use Rattle.plan.specs.Overlap.{boundOf};
+ghost use Rattle.plan.specs.Overlap.{boundOf, overlapInOrder};
 
 pub struct Window {
     pub offset: u32,
@@ -46,4 +46,11 @@ pub fn window_bound(window: Window) -> u64
     ensures { λ r. ⌜ r ≡ boundOf window ⌝ }
 {
     window_end(window)
+}
+
+// Whether two windows of an accepted plan overlap, of which the first stands before the second. Minutes are compared here alone.
+pub fn overlap_in_order(earlier: Window, later: Window) -> bool
+    ensures { λ r. ⌜ r ≡ overlapInOrder earlier later ⌝ }
+{
+    (later.offset as u64) < window_bound(earlier)
 }

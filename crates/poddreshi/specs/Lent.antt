@@ -4,15 +4,15 @@ use Prim.Native.Nat.{ℕ, _*_}
 use mathlib.Core.List.{List}
 use lib.ListN.{length}
 use Rattle.tree.specs.declared.answers.BuildAnswer.{BuildAnswer}
-use Rattle.tree.specs.Build.{buildOf}
-use Rattle.tag.specs.declared.lookups.LookupAnswer.{LookupAnswer}
-use Rattle.tag.specs.declared.lookups.LookupAnswer.the-variants.{Found, Refused}
+use Rattle.tree.specs.Build.{buildAnswerOf}
+use Rattle.tag.specs.declared.tag_file.LookupAnswer.{LookupAnswer}
+use Rattle.tag.specs.declared.tag_file.LookupAnswer.the-variants.{Found, Refused}
 use Rattle.tag.specs.Fields.{tagLength}
 
 -- What build answers for a file, the five tables and the tag file that are lent to it.
 abbrev pub builtIn : (file parents components depths ranks lastRanks tags : List ℕ) → BuildAnswer
 builtIn file parents components depths ranks lastRanks tags =
-    buildOf file (length parents) (length components) (length depths) (length ranks) (length lastRanks) (length tags)
+    buildAnswerOf file (length parents) (length components) (length depths) (length ranks) (length lastRanks) (length tags)
 
 -- Where in the tag file the part begins that a lookup hands back: `lookupPart` takes its ten bytes from there. A part itself
 -- does not cross into C. A refused lookup leaves the number as it was.

@@ -7,10 +7,10 @@ use packing::pack_same;
 use packing::pack_validation;
 ghost use mathlib.Core.Path.{_≡_};
 ghost use lib.ListN.{length};
-ghost use Rattle.plan.specs.Validation.{validateOf};
+ghost use Rattle.plan.specs.Validation.{validateAnswerOf};
 ghost use Rattle.tree.specs.Tables.{parentOf, componentOf, depthOf, rankOf, lastRankOf, numbersAt};
-ghost use Rattle.tree.specs.Build.{buildOf, afterBuild, afterTags};
-ghost use Rattle.tree.specs.ReachCall.{reachOf};
+ghost use Rattle.tree.specs.Build.{buildAnswerOf, afterBuild, afterTags, tagsAnswerOf};
+ghost use Rattle.tree.specs.Reach.{reachAnswerOf};
 ghost use Rattle.path.specs.Chain.{chainBetween, chainAnswerOf, afterChain};
 ghost use Rattle.path.specs.Neighbours.{neighboursOf, neighboursAnswerOf, afterNeighbours};
 ghost use Rattle.path.specs.Sameness.{sameAnswerOf};
@@ -20,7 +20,7 @@ ghost use Rattle.poddreshi.specs.Lent.{builtIn};
 // Whether a file is that of an accepted plan.
 #[no_mangle]
 pub extern "C" fn poddreshi_validate(file: &[u8]) -> u64
-    ensures { λ r. ⌜ r ≡ packedValidation (validateOf (now (file .entry))) ⌝ }
+    ensures { λ r. ⌜ r ≡ packedValidation (validateAnswerOf (now (file .entry))) ⌝ }
 {
     pack_validation(plan::validate(file))
 }
@@ -47,10 +47,19 @@ pub extern "C" fn poddreshi_build(
     pack_build(tree::build(file, parents, components, depths, ranks, last_ranks, tags))
 }
 
+// The tag file of a plan.
+#[no_mangle]
+pub extern "C" fn poddreshi_tags(file: &[u8], tags: &mut [u8]) -> u64
+    ensures { λ r. ⌜ r ≡ packedBuild (tagsAnswerOf (now (file .entry)) (length (now (tags .entry)))) ⌝ }
+    ensures { λ _. ⌜ now (tags .exit) ≡ afterTags (tagsAnswerOf (now (file .entry)) (length (now (tags .entry)))) (numbersAt (now (file .entry))) (now (tags .entry)) ⌝ }
+{
+    pack_build(tree::tag_file(file, tags))
+}
+
 // The reach of a position's component.
 #[no_mangle]
 pub extern "C" fn poddreshi_reach(file: &[u8], at: usize) -> u64
-    ensures { λ r. ⌜ r ≡ packedReach (reachOf (now (file .entry)) at) ⌝ }
+    ensures { λ r. ⌜ r ≡ packedReach (reachAnswerOf (now (file .entry)) at) ⌝ }
 {
     pack_reach(tree::reach(file, at))
 }

@@ -5,26 +5,34 @@ use packing::pack_write;
 use tag::LookupAnswer;
 use tag::Tag;
 ghost use mathlib.Core.Path.{_≡_};
-ghost use Rattle.tag.specs.Pairs.{pairOf};
-ghost use Rattle.tag.specs.TagFile.{lookupOf};
-ghost use Rattle.tag.specs.Writing.{writeOf, afterWrite};
+ghost use Rattle.tag.specs.Pairing.{pairAnswerOf, pairAtAnswerOf};
+ghost use Rattle.tag.specs.TagFile.{lookupAnswerOf};
+ghost use Rattle.tag.specs.Writing.{writeAnswerOf, afterWrite};
 ghost use Rattle.packing.specs.Packing.{packedPair, packedLookup, packedWrite};
 ghost use Rattle.poddreshi.specs.Lent.{offsetAfter};
 
 // The answer from the bytes of two tags.
 #[no_mangle]
 pub extern "C" fn poddreshi_pair(first: &[u8], second: &[u8]) -> u64
-    ensures { λ r. ⌜ r ≡ packedPair (pairOf (now (first .entry)) (now (second .entry))) ⌝ }
+    ensures { λ r. ⌜ r ≡ packedPair (pairAnswerOf (now (first .entry)) (now (second .entry))) ⌝ }
 {
     pack_pair(tag::pair(first, second))
+}
+
+// The answer from the tags at two positions of a tag file.
+#[no_mangle]
+pub extern "C" fn poddreshi_pair_at(tags: &[u8], first: usize, second: usize) -> u64
+    ensures { λ r. ⌜ r ≡ packedPair (pairAtAnswerOf (now (tags .entry)) first second) ⌝ }
+{
+    pack_pair(tag::pair_at(tags, first, second))
 }
 
 // Where in a tag file the tag at a position begins. `tag::lookup` hands back the part that begins there; a part does not
 // cross into C.
 #[no_mangle]
 pub extern "C" fn poddreshi_lookup(tags: &[u8], at: usize, offset: &mut usize) -> u64
-    ensures { λ r. ⌜ r ≡ packedLookup (lookupOf (now (tags .entry)) at) ⌝ }
-    ensures { λ _. ⌜ now (offset .exit) ≡ offsetAfter (lookupOf (now (tags .entry)) at) at (now (offset .entry)) ⌝ }
+    ensures { λ r. ⌜ r ≡ packedLookup (lookupAnswerOf (now (tags .entry)) at) ⌝ }
+    ensures { λ _. ⌜ now (offset .exit) ≡ offsetAfter (lookupAnswerOf (now (tags .entry)) at) at (now (offset .entry)) ⌝ }
 {
     let answer = tag::lookup_refusal(tags, at);
     if let LookupAnswer::Found = answer {
@@ -43,8 +51,8 @@ pub extern "C" fn poddreshi_write(
     last: u16,
     out: &mut [u8],
 ) -> u64
-    ensures { λ r. ⌜ r ≡ packedWrite (writeOf (record { plan = plan; component = component; depth = depth; rank = rank; last = last }) (now (out .entry))) ⌝ }
-    ensures { λ _. ⌜ now (out .exit) ≡ afterWrite (writeOf (record { plan = plan; component = component; depth = depth; rank = rank; last = last }) (now (out .entry))) (record { plan = plan; component = component; depth = depth; rank = rank; last = last }) (now (out .entry)) ⌝ }
+    ensures { λ r. ⌜ r ≡ packedWrite (writeAnswerOf (record { plan = plan; component = component; depth = depth; rank = rank; last = last }) (now (out .entry))) ⌝ }
+    ensures { λ _. ⌜ now (out .exit) ≡ afterWrite (writeAnswerOf (record { plan = plan; component = component; depth = depth; rank = rank; last = last }) (now (out .entry))) (record { plan = plan; component = component; depth = depth; rank = rank; last = last }) (now (out .entry)) ⌝ }
 {
     pack_write(tag::write(plan, component, depth, rank, last, out))
 }

@@ -20,9 +20,9 @@ use Rattle.tag.specs.declared.reader.TagRead.the-variants as read
 use Rattle.tag.specs.declared.pairs.PairAnswer.{PairAnswer}
 use Rattle.tag.specs.declared.pairs.PairAnswer.the-variants.{Handovers, NoChain, Refused}
 use Rattle.tag.specs.Fields.{tagLength, fieldLimit, tagOf, numbers, tagWith, tagBytes, withinLimit}
-use Rattle.tag.specs.Reading.{readQuestions, readOf}
+use Rattle.tag.specs.Reading.{readQuestions, readAnswerOf}
 use Rattle.tag.specs.TagFile.{tagFile, tagCount, tagPart, tagFileQuestion, lookupPart}
-use Rattle.tag.specs.Pairing.{agreeing, compareQuestions, pairQuestions, answerOf, comparedOf, pairOf, pairAtOf}
+use Rattle.tag.specs.Pairing.{agreeing, compareQuestions, pairQuestions, answerOf, comparedOf, pairAnswerOf, pairAtAnswerOf}
 use Rattle.tag.proofs.Fields.{Within, within-limit, numbers-tagWith}
 use Rattle.tag.proofs.Reading.{valid-reads, questions-valid, questions-refused}
 use Rattle.tag.proofs.Writing.{tagBytes-read}
@@ -40,23 +40,23 @@ module _ (first second : List ℕ) where
       ap (λ qs. firstNo qs Refused accepted) (sym first-input) ∙ first-from 0 (readQuestions first) Refused accepted
 
   -- The questions to the first tag, to the second, and to both.
-  questions-in-turn : pairOf first second ≡ firstNo (readQuestions first) (λ r. Refused (refusalFrom 0 r)) (firstNo (readQuestions second) (λ r. Refused (refusalFrom 1 r)) (comparedOf (numbers (tagOf first)) (numbers (tagOf second))))
-  unfolding pairOf pairQuestions comparedOf
+  questions-in-turn : pairAnswerOf first second ≡ firstNo (readQuestions first) (λ r. Refused (refusalFrom 0 r)) (firstNo (readQuestions second) (λ r. Refused (refusalFrom 1 r)) (comparedOf (numbers (tagOf first)) (numbers (tagOf second))))
+  unfolding pairAnswerOf pairQuestions comparedOf
   questions-in-turn =
       rw (first-append, first-from, first-append, first-from)
       (first-asked _)
 
   -- "A tag that is refused ends the pair call there, before the second tag is read": nothing is asked of the second.
-  pub pair-first-refused : (r : Refusal) → readOf first ≡ read.Refused r → pairOf first second ≡ Refused (refusalFrom 0 r)
+  pub pair-first-refused : (r : Refusal) → readAnswerOf first ≡ read.Refused r → pairAnswerOf first second ≡ Refused (refusalFrom 0 r)
   pair-first-refused r e = questions-in-turn ∙ questions-refused first _ _ r e
 
   -- A second tag that is refused after a first that is not.
-  pub pair-second-refused : (a : Tag) (r : Refusal) → readOf first ≡ read.Valid a → readOf second ≡ read.Refused r → pairOf first second ≡ Refused (refusalFrom 1 r)
+  pub pair-second-refused : (a : Tag) (r : Refusal) → readAnswerOf first ≡ read.Valid a → readAnswerOf second ≡ read.Refused r → pairAnswerOf first second ≡ Refused (refusalFrom 1 r)
   pair-second-refused a r e g =
       questions-in-turn ∙ (questions-valid first _ _ a e ∙ questions-refused second _ _ r g)
 
   -- Two tags that are both read answer by their numbers.
-  pub pair-valid : (a b : Tag) → readOf first ≡ read.Valid a → readOf second ≡ read.Valid b → pairOf first second ≡ comparedOf (numbers a) (numbers b)
+  pub pair-valid : (a b : Tag) → readAnswerOf first ≡ read.Valid a → readAnswerOf second ≡ read.Valid b → pairAnswerOf first second ≡ comparedOf (numbers a) (numbers b)
   pair-valid a b e g =
       questions-in-turn
       ∙ (questions-valid first _ _ a e
@@ -130,27 +130,27 @@ compared-symmetric u v =
     rw (eqb-symmetric (u .plan) (v .plan), agreeing-symmetric u v, outcome-symmetric u v)
 
 -- Two byte strings that both read answer the same in either order, a refusal by 11 or 12 included.
-pub pair-symmetric : (first second : List ℕ) (a b : Tag) → readOf first ≡ read.Valid a → readOf second ≡ read.Valid b → pairOf first second ≡ pairOf second first
+pub pair-symmetric : (first second : List ℕ) (a b : Tag) → readAnswerOf first ≡ read.Valid a → readAnswerOf second ≡ read.Valid b → pairAnswerOf first second ≡ pairAnswerOf second first
 pair-symmetric first second a b e g =
     pair-valid first second a b e g ∙ (compared-symmetric (numbers a) (numbers b) ∙ sym (pair-valid second first b a g e))
 
 -- Where one of two is refused by 9 or 10, both orders are refused by that number, at the input where it stands. (Where both
 -- are, each order has the refusal of the one that it names first, by `pair-first-refused`; the two numbers may differ.)
-pub pair-one-refused : (first second : List ℕ) (r : Refusal) (b : Tag) → readOf first ≡ read.Refused r → readOf second ≡ read.Valid b → (pairOf first second ≡ Refused (refusalFrom 0 r)) × (pairOf second first ≡ Refused (refusalFrom 1 r))
+pub pair-one-refused : (first second : List ℕ) (r : Refusal) (b : Tag) → readAnswerOf first ≡ read.Refused r → readAnswerOf second ≡ read.Valid b → (pairAnswerOf first second ≡ Refused (refusalFrom 0 r)) × (pairAnswerOf second first ≡ Refused (refusalFrom 1 r))
 pair-one-refused first second r b e g = (pair-first-refused first second r e, pair-second-refused second first b r g e)
 
 -- The answer from the bytes of two tags within the limit is that from their numbers.
-pub pair-tagBytes : (u v : Numbers) → withinLimit u ≡ true → withinLimit v ≡ true → pairOf (tagBytes u) (tagBytes v) ≡ comparedOf u v
+pub pair-tagBytes : (u v : Numbers) → withinLimit u ≡ true → withinLimit v ≡ true → pairAnswerOf (tagBytes u) (tagBytes v) ≡ comparedOf u v
 pair-tagBytes u v hu hv =
     pair-valid (tagBytes u) (tagBytes v) (tagWith u) (tagWith v) (tagBytes-read u hu) (tagBytes-read v hv)
     ∙ rw (numbers-tagWith u, numbers-tagWith v)
 
 -- So is the answer from two tags that are looked up in a tag file.
-pub pair-tagFile : (f : ℕ → Numbers) (n u v : ℕ) → u < n → v < n → withinLimit (f u) ≡ true → withinLimit (f v) ≡ true → pairOf (lookupPart (tagFile f n) u) (lookupPart (tagFile f n) v) ≡ comparedOf (f u) (f v)
+pub pair-tagFile : (f : ℕ → Numbers) (n u v : ℕ) → u < n → v < n → withinLimit (f u) ≡ true → withinLimit (f v) ≡ true → pairAnswerOf (lookupPart (tagFile f n) u) (lookupPart (tagFile f n) v) ≡ comparedOf (f u) (f v)
 pair-tagFile f n u v hu hv wu wv = rw (tagFile-lookup f n u hu, tagFile-lookup f n v hv) (pair-tagBytes (f u) (f v) wu wv)
 
 -- A tag that is read is 0 handovers from itself.
-pub pair-itself : (bytes : List ℕ) (t : Tag) → readOf bytes ≡ read.Valid t → pairOf bytes bytes ≡ Handovers 0
+pub pair-itself : (bytes : List ℕ) (t : Tag) → readAnswerOf bytes ≡ read.Valid t → pairAnswerOf bytes bytes ≡ Handovers 0
 unfolding answerOf
 pair-itself bytes t e =
     pair-valid bytes bytes t t e e
@@ -172,8 +172,8 @@ answer-counts (apart m) k e = let same : m ≡ k = cc in ap apart same
 answer-counts no-chain k e = let z : _≡_ {A = ℕ} 0 1 = cc in absurd (omega arith)
 
 -- A pair that is answered by a number shows all of that.
-pub pair-counted : (first second : List ℕ) (k : ℕ) → pairOf first second ≡ Handovers k → Counted (numbers (tagOf first)) (numbers (tagOf second)) k
-unfolding pairOf pairQuestions readQuestions question
+pub pair-counted : (first second : List ℕ) (k : ℕ) → pairAnswerOf first second ≡ Handovers k → Counted (numbers (tagOf first)) (numbers (tagOf second)) k
+unfolding pairAnswerOf pairQuestions readQuestions question
 pair-counted first second k e =
     let u = numbers (tagOf first) in
     let v = numbers (tagOf second) in
@@ -188,18 +188,18 @@ pair-counted first second k e =
     }
 
 -- A count is at most two more than the limit of a field: 2,049, which two bytes hold.
-pub pair-most : (first second : List ℕ) (k : ℕ) → pairOf first second ≡ Handovers k → k ≤ 2049
+pub pair-most : (first second : List ℕ) (k : ℕ) → pairAnswerOf first second ≡ Handovers k → k ≤ 2049
 pair-most first second k e =
     let h = pair-counted first second k e in
     outcome-most _ _ fieldLimit k (h .first .depth) (h .second .depth) (h .count)
 
 -- The answer for two positions of a tag file: 9, 7, and then the two tags.
 module _ (tags : List ℕ) (first second : ℕ) where
-  pub pair-at-9 : (length tags % tagLength ≡ 0 → ⊥) → Refused (refusalBy 9) ≡ pairAtOf tags first second
-  unfolding pairAtOf tagFileQuestion firstNo question
+  pub pair-at-9 : (length tags % tagLength ≡ 0 → ⊥) → Refused (refusalBy 9) ≡ pairAtAnswerOf tags first second
+  unfolding pairAtAnswerOf tagFileQuestion firstNo question
   pair-at-9 other = rw (ne-eqb (length tags % tagLength) 0 other)
 
-  pub pair-at-asked : length tags % tagLength ≡ 0 → pairAtOf tags first second ≡ afterAsked (askedOf (positionQuestions first second (tagCount tags))) Refused (pairOf (tagPart tags first) (tagPart tags second))
-  unfolding pairAtOf tagFileQuestion firstNo question
+  pub pair-at-asked : length tags % tagLength ≡ 0 → pairAtAnswerOf tags first second ≡ afterAsked (askedOf (positionQuestions first second (tagCount tags))) Refused (pairAnswerOf (tagPart tags first) (tagPart tags second))
+  unfolding pairAtAnswerOf tagFileQuestion firstNo question
   pair-at-asked whole =
       rw (eq-eqb (length tags % tagLength) 0 whole) (asked-first (positionQuestions first second (tagCount tags)) Refused _)

@@ -14,13 +14,13 @@ use Rattle.tag.specs.Fields.{field, tagOf, numbers, tagBytes, withinLimi
 use Rattle.tag.specs.declared.tag_file.LookupAnswer.the-variants as lookup
 use Rattle.tag.specs.declared.writer.WriteAnswer.the-variants as write
 use Rattle.tag.specs.Reading.{readQuestions}
-use Rattle.tag.specs.Writing.{writeQuestions, writeOf}
-use Rattle.tag.specs.TagFile.{tagFile, tagCount, tagPart, tagFileQuestion, lookupQuestions, lookupOf, partAt, lookupPart}
-use Rattle.tag.specs.Pairing.{agreeing, compareQuestions, pairQuestions, answerOf, pairOf, pairAtOf}
+use Rattle.tag.specs.Writing.{writeQuestions, writeAnswerOf}
+use Rattle.tag.specs.TagFile.{tagFile, tagCount, tagPart, tagFileQuestion, lookupQuestions, lookupAnswerOf, partAt, lookupPart}
+use Rattle.tag.specs.Pairing.{agreeing, compareQuestions, pairQuestions, answerOf, pairAnswerOf, pairAtAnswerOf}
 
 -- What a computation on tags opens.
 unfoldable pub meaning : Unit {0}
-unfolding definitions le16 bytes16 question firstNo field tagOf numbers tagBytes withinLimit readQuestions tagFile tagCount tagPart tagFileQuestion positionQuestion positionQuestions from flatMap lookupQuestions lookupOf partAt lookupPart agreeing compareQuestions pairQuestions answerOf pairOf
+unfolding definitions le16 bytes16 question firstNo field tagOf numbers tagBytes withinLimit readQuestions tagFile tagCount tagPart tagFileQuestion positionQuestion positionQuestions from flatMap lookupQuestions lookupAnswerOf partAt lookupPart agreeing compareQuestions pairQuestions answerOf pairAnswerOf
 meaning = tt
 
 -- The tag file of the plan.
@@ -41,7 +41,7 @@ plan-12-tags = refl
 
 -- The answer from the two tags that are looked up at two positions.
 unfoldable pub answer : ℕ → ℕ → PairAnswer
-answer u v = pairOf (lookupPart tags u) (lookupPart tags v)
+answer u v = pairAnswerOf (lookupPart tags u) (lookupPart tags v)
 
 -- The paper's nine answers.
 pub plan-12-answers : answer 0 5 ∷ answer 1 5 ∷ answer 3 5 ∷ answer 2 3 ∷ answer 1 3 ∷ answer 3 4 ∷ answer 4 5 ∷ answer 5 6 ∷ answer 6 6 ∷ []
@@ -56,10 +56,10 @@ tag plan component depth rank last =
 
 -- No tag at the position past the last, before a field of 2,048; a field of 2,048 alone; another plan, before one rank at two
 -- depths; and that alone.
-pub refusals : pairOf (lookupPart tags 7) (tag 12 2048 0 0 0)
-    ∷ pairOf (tag 12 0 0 5 4) (tag 12 0 0 0 2048)
-    ∷ pairOf (tag 12 0 0 5 4) (tag 13 0 1 5 4)
-    ∷ pairOf (tag 12 0 0 5 4) (tag 12 0 1 5 4)
+pub refusals : pairAnswerOf (lookupPart tags 7) (tag 12 2048 0 0 0)
+    ∷ pairAnswerOf (tag 12 0 0 5 4) (tag 12 0 0 0 2048)
+    ∷ pairAnswerOf (tag 12 0 0 5 4) (tag 13 0 1 5 4)
+    ∷ pairAnswerOf (tag 12 0 0 5 4) (tag 12 0 1 5 4)
     ∷ []
     ≡ Refused (refusalBy 9)
     ∷ Refused (refusalFrom 1 (refusalBy 10))
@@ -70,20 +70,20 @@ unfolding meaning tags tag
 refusals = refl
 
 -- The same pairs from positions of the tag file: the answers, and no tag at the first position and at the second.
-pub plan-12-positions : pairAtOf tags 0 5 ∷ pairAtOf tags 5 6 ∷ pairAtOf tags 7 8 ∷ pairAtOf tags 0 7 ∷ []
+pub plan-12-positions : pairAtAnswerOf tags 0 5 ∷ pairAtAnswerOf tags 5 6 ∷ pairAtAnswerOf tags 7 8 ∷ pairAtAnswerOf tags 0 7 ∷ []
     ≡ Handovers 3 ∷ NoChain ∷ Refused (refusalBy 7) ∷ Refused (refusalFrom 1 (refusalBy 7)) ∷ []
-unfolding meaning tags pairAtOf
+unfolding meaning tags pairAtAnswerOf
 plan-12-positions = refl
 
 -- One byte is no tag file, before there is no tag at a position; and a table without room comes before a field of 2,048.
-pub file-first : pairAtOf (0 ∷ []) 0 0 ≡ Refused (refusalBy 9)
-unfolding meaning pairAtOf
+pub file-first : pairAtAnswerOf (0 ∷ []) 0 0 ≡ Refused (refusalBy 9)
+unfolding meaning pairAtAnswerOf
 file-first = refl
 
-pub length-first : lookupOf (0 ∷ []) 0 ≡ lookup.Refused (refusalBy 9)
+pub length-first : lookupAnswerOf (0 ∷ []) 0 ≡ lookup.Refused (refusalBy 9)
 unfolding meaning
 length-first = refl
 
-pub room-first : writeOf (record { plan = 12; component = 2048; depth = 0; rank = 0; last = 0 }) [] ≡ write.Refused (refusalBy 8)
-unfolding meaning writeOf writeQuestions roomQuestion
+pub room-first : writeAnswerOf (record { plan = 12; component = 2048; depth = 0; rank = 0; last = 0 }) [] ≡ write.Refused (refusalBy 8)
+unfolding meaning writeAnswerOf writeQuestions roomQuestion
 room-first = refl

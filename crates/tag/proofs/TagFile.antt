@@ -17,40 +17,40 @@ use Rattle.wire.specs.Question.{refusalBy, question, positionQuestion, firstNo}
 use Rattle.wire.proofs.Question.{first-all, all-member}
 use Rattle.tag.specs.declared.tag_file.LookupAnswer.the-variants.{Found, Refused}
 use Rattle.tag.specs.Fields.{tagLength, tagBytes}
-use Rattle.tag.specs.TagFile.{tagFile, tagCount, tagPart, tagFileQuestion, lookupQuestions, lookupOf, partAt, lookupPart}
+use Rattle.tag.specs.TagFile.{tagFile, tagCount, tagPart, tagFileQuestion, lookupQuestions, lookupAnswerOf, partAt, lookupPart}
 use Rattle.tag.proofs.Fields.{length-tagBytes}
 
 module _ (tags : List ℕ) (at : ℕ) where
   -- A file whose length is no multiple of a tag's is refused by 9.
-  pub lookup-9 : (length tags % tagLength ≡ 0 → ⊥) → Refused (refusalBy 9) ≡ lookupOf tags at
-  unfolding lookupOf lookupQuestions tagFileQuestion positionQuestion firstNo question
+  pub lookup-9 : (length tags % tagLength ≡ 0 → ⊥) → Refused (refusalBy 9) ≡ lookupAnswerOf tags at
+  unfolding lookupAnswerOf lookupQuestions tagFileQuestion positionQuestion firstNo question
   lookup-9 other = rw (ne-eqb (length tags % tagLength) 0 other)
 
   -- A position past the last tag is refused by 7.
-  pub lookup-7 : length tags % tagLength ≡ 0 → tagCount tags ≤ at → Refused (refusalBy 7) ≡ lookupOf tags at
-  unfolding lookupOf lookupQuestions tagFileQuestion positionQuestion firstNo question
+  pub lookup-7 : length tags % tagLength ≡ 0 → tagCount tags ≤ at → Refused (refusalBy 7) ≡ lookupAnswerOf tags at
+  unfolding lookupAnswerOf lookupQuestions tagFileQuestion positionQuestion firstNo question
   lookup-7 whole past = rw (eq-eqb (length tags % tagLength) 0 whole, le-ltb at (tagCount tags) past)
 
   -- Else the tag is found.
-  pub lookup-found : length tags % tagLength ≡ 0 → at < tagCount tags → Found ≡ lookupOf tags at
-  unfolding lookupOf lookupQuestions tagFileQuestion positionQuestion firstNo question
+  pub lookup-found : length tags % tagLength ≡ 0 → at < tagCount tags → Found ≡ lookupAnswerOf tags at
+  unfolding lookupAnswerOf lookupQuestions tagFileQuestion positionQuestion firstNo question
   lookup-found whole within = rw (eq-eqb (length tags % tagLength) 0 whole, lt-ltb at (tagCount tags) within)
 
   -- What is found lies whole within the tag file.
-  pub found-within : lookupOf tags at ≡ Found → tagLength * at + tagLength ≤ length tags
-  unfolding lookupOf lookupQuestions positionQuestion question tagCount
+  pub found-within : lookupAnswerOf tags at ≡ Found → tagLength * at + tagLength ≤ length tags
+  unfolding lookupAnswerOf lookupQuestions positionQuestion question tagCount
   found-within e =
       let passed = all-member (lookupQuestions tags at) (first-all (lookupQuestions tags at) Refused Found (λ r s. let z : _≡_ {A = ℕ} 0 1 = cc in omega arith) e) in
       let within : at < length tags / tagLength = ltb-true _ _ (passed _ (List·Memᴰ·tail (List·Memᴰ·head refl))) in
       omega arith
 
   -- The part that is handed back where the tag is found.
-  pub part-found : lookupOf tags at ≡ Found → lookupPart tags at ≡ tagPart tags at
+  pub part-found : lookupAnswerOf tags at ≡ Found → lookupPart tags at ≡ tagPart tags at
   unfolding lookupPart partAt
   part-found e = rw e
 
   -- The empty part where the lookup is refused.
-  pub part-refused : (r : Refusal) → lookupOf tags at ≡ Refused r → lookupPart tags at ≡ []
+  pub part-refused : (r : Refusal) → lookupAnswerOf tags at ≡ Refused r → lookupPart tags at ≡ []
   unfolding lookupPart partAt
   part-refused r e = rw e
 

@@ -21,25 +21,25 @@ use Rattle.tag.specs.declared.reader.Tag.{Tag}
 use Rattle.tag.specs.declared.reader.TagRead.the-variants.{Valid}
 use Rattle.tag.specs.declared.writer.WriteAnswer.the-variants.{Written, Refused}
 use Rattle.tag.specs.Fields.{tagLength, numbers, tagWith, tagBytes, withinLimit}
-use Rattle.tag.specs.Reading.{readOf}
-use Rattle.tag.specs.Writing.{writeQuestions, writeOf, afterWrite}
+use Rattle.tag.specs.Reading.{readAnswerOf}
+use Rattle.tag.specs.Writing.{writeQuestions, writeAnswerOf, afterWrite}
 use Rattle.tag.proofs.Fields.{length-tagBytes, tagOf-tagBytes, numbers-tagWith, tagBytes-tagOf}
 use Rattle.tag.proofs.Reading.{read-valid, valid-reads}
 
 module _ (n : Numbers) (out : List ℕ) where
   -- A table without room is refused by 8.
-  pub write-8 : length out < tagLength → Refused (refusalBy 8) ≡ writeOf n out
-  unfolding writeOf writeQuestions roomQuestion firstNo question
+  pub write-8 : length out < tagLength → Refused (refusalBy 8) ≡ writeAnswerOf n out
+  unfolding writeAnswerOf writeQuestions roomQuestion firstNo question
   write-8 short = rw (lt-leb tagLength (length out) short)
 
   -- A field past the limit is refused by 10.
-  pub write-10 : tagLength ≤ length out → withinLimit n ≡ false → Refused (refusalBy 10) ≡ writeOf n out
-  unfolding writeOf writeQuestions roomQuestion firstNo question
+  pub write-10 : tagLength ≤ length out → withinLimit n ≡ false → Refused (refusalBy 10) ≡ writeAnswerOf n out
+  unfolding writeAnswerOf writeQuestions roomQuestion firstNo question
   write-10 room over = rw (le-leb tagLength (length out) room, over)
 
   -- Else the tag is written.
-  pub write-written : tagLength ≤ length out → withinLimit n ≡ true → Written ≡ writeOf n out
-  unfolding writeOf writeQuestions roomQuestion firstNo question
+  pub write-written : tagLength ≤ length out → withinLimit n ≡ true → Written ≡ writeAnswerOf n out
+  unfolding writeAnswerOf writeQuestions roomQuestion firstNo question
   write-written room within = rw (le-leb tagLength (length out) room, within)
 
   -- Five numbers of two bytes, written one behind the other, are the tag at the front.
@@ -74,8 +74,8 @@ pub record Fits (n : Numbers) (out : List ℕ) : Type 0 where
   pub within : withinLimit n ≡ true
 
 -- A tag that is written shows both.
-pub written-fits : (n : Numbers) (out : List ℕ) → writeOf n out ≡ Written → Fits n out
-unfolding writeOf writeQuestions roomQuestion question
+pub written-fits : (n : Numbers) (out : List ℕ) → writeAnswerOf n out ≡ Written → Fits n out
+unfolding writeAnswerOf writeQuestions roomQuestion question
 written-fits n out e =
     record {
       room = leb-true _ _ (asked _ (List·Memᴰ·head refl));
@@ -88,7 +88,7 @@ written-fits n out e =
         (first-all (writeQuestions n out) Refused Written (λ r s. let z : _≡_ {A = ℕ} 0 1 = cc in omega arith) e)
 
 -- The bytes of a tag within the limit read as that tag.
-pub tagBytes-read : (n : Numbers) → withinLimit n ≡ true → readOf (tagBytes n) ≡ Valid (tagWith n)
+pub tagBytes-read : (n : Numbers) → withinLimit n ≡ true → readAnswerOf (tagBytes n) ≡ Valid (tagWith n)
 tagBytes-read n within =
     sym (read-valid (tagBytes n) (tagWith n) (length-tagBytes n) (sym (tagOf-tagBytes n)) (rw (numbers-tagWith n) within))
 
@@ -97,23 +97,23 @@ tag-front : (n : Numbers) (out : List ℕ) → take tagLength (overwritten out (
 tag-front n out = rw (length-tagBytes n) at (take-overwritten out (tagBytes n))
 
 -- A tag that is written reads back as the same five numbers.
-pub written-reads-back : (n : Numbers) (out : List ℕ) → writeOf n out ≡ Written → readOf (take tagLength (afterWrite (writeOf n out) n out)) ≡ Valid (tagWith n)
+pub written-reads-back : (n : Numbers) (out : List ℕ) → writeAnswerOf n out ≡ Written → readAnswerOf (take tagLength (afterWrite (writeAnswerOf n out) n out)) ≡ Valid (tagWith n)
 unfolding afterWrite
 written-reads-back n out e =
     rw (e, tag-front n out) (tagBytes-read n (written-fits n out e .within))
 
 -- Bytes that read as a tag are those of its numbers.
-pub read-tagBytes : (bytes : List ℕ) (t : Tag) → ((i : ℕ) → getD bytes i 0 < 256) → readOf bytes ≡ Valid t → tagBytes (numbers t) ≡ bytes
+pub read-tagBytes : (bytes : List ℕ) (t : Tag) → ((i : ℕ) → getD bytes i 0 < 256) → readAnswerOf bytes ≡ Valid t → tagBytes (numbers t) ≡ bytes
 read-tagBytes bytes t small e =
     let r = valid-reads bytes t e in
     rw (r .holds) (tagBytes-tagOf bytes small (r .long))
 
 -- The numbers of a tag that was read are written wherever there is room.
-pub read-accepted : (bytes : List ℕ) (t : Tag) (out : List ℕ) → readOf bytes ≡ Valid t → tagLength ≤ length out → writeOf (numbers t) out ≡ Written
+pub read-accepted : (bytes : List ℕ) (t : Tag) (out : List ℕ) → readAnswerOf bytes ≡ Valid t → tagLength ≤ length out → writeAnswerOf (numbers t) out ≡ Written
 read-accepted bytes t out e room = sym (write-written (numbers t) out room (valid-reads bytes t e .within))
 
 -- Bytes that read as a tag are written back the same.
-pub read-writes-back : (bytes : List ℕ) (t : Tag) (out : List ℕ) → ((i : ℕ) → getD bytes i 0 < 256) → readOf bytes ≡ Valid t → tagLength ≤ length out → take tagLength (afterWrite (writeOf (numbers t) out) (numbers t) out) ≡ bytes
+pub read-writes-back : (bytes : List ℕ) (t : Tag) (out : List ℕ) → ((i : ℕ) → getD bytes i 0 < 256) → readAnswerOf bytes ≡ Valid t → tagLength ≤ length out → take tagLength (afterWrite (writeAnswerOf (numbers t) out) (numbers t) out) ≡ bytes
 unfolding afterWrite
 read-writes-back bytes t out small e room =
     rw (read-accepted bytes t out e room) (tag-front (numbers t) out ∙ read-tagBytes bytes t small e)

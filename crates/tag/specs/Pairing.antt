@@ -1,6 +1,6 @@
 -- Paper 01: "From two tags the answer is one of: a number of handovers; no chain; a refusal." The rule itself, on numbers, is
 -- `outcome` of interval_graph.
--- Vocabulary: agreeing, compareQuestions, pairQuestions, answerOf, comparedOf, pairOf, pairAtOf.
+-- Vocabulary: agreeing, compareQuestions, pairQuestions, answerOf, comparedOf, pairAnswerOf, pairAtAnswerOf.
 use Prim.Native.Nat.{ℕ}
 use mathlib.Core.Bool.{Bool, true, cond, _&&_}
 use mathlib.Core.List.{List, [], _∷_, _++_}
@@ -38,15 +38,15 @@ unfoldable pub comparedOf : Numbers → Numbers → PairAnswer
 comparedOf u v = firstNo (from 1 (compareQuestions u v)) Refused (answerOf (outcome u v))
 
 -- The answer for every two byte strings: the first "no", or what the rule says.
-unfoldable pub pairOf : List ℕ → List ℕ → PairAnswer
-pairOf first second =
+unfoldable pub pairAnswerOf : List ℕ → List ℕ → PairAnswer
+pairAnswerOf first second =
     firstNo (pairQuestions first second) Refused (answerOf (outcome (numbers (tagOf first)) (numbers (tagOf second))))
 
 -- The same for two positions of a tag file: 9 of the file, 7 of the first position and of the second, and then what the two tags
 -- found there answer.
-unfoldable pub pairAtOf : List ℕ → (first second : ℕ) → PairAnswer
-pairAtOf tags first second =
+unfoldable pub pairAtAnswerOf : List ℕ → (first second : ℕ) → PairAnswer
+pairAtAnswerOf tags first second =
     firstNo
     (tagFileQuestion tags ∷ positionQuestions first second (tagCount tags))
     Refused
-    (pairOf (tagPart tags first) (tagPart tags second))
+    (pairAnswerOf (tagPart tags first) (tagPart tags second))

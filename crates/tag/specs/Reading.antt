@@ -1,5 +1,5 @@
 -- Paper 01: "Reading one tag is put to 9 and 10."
--- Vocabulary: readQuestions, readOf, refusalOf.
+-- Vocabulary: readQuestions, readAnswerOf, refusalOf.
 use Prim.Native.Nat.{ℕ}
 use mathlib.Core.List.{List, [], _∷_}
 use lib.ListN.{length}
@@ -16,8 +16,8 @@ unfoldable pub readQuestions : List ℕ → List Question
 readQuestions bytes = question 9 (eqb (length bytes) tagLength) ∷ question 10 (withinLimit (numbers (tagOf bytes))) ∷ []
 
 -- The reading of every byte string: the first "no" of an only or first tag, or the tag.
-unfoldable pub readOf : List ℕ → TagRead
-readOf bytes = firstNo (readQuestions bytes) Refused (Valid (tagOf bytes))
+unfoldable pub readAnswerOf : List ℕ → TagRead
+readAnswerOf bytes = firstNo (readQuestions bytes) Refused (Valid (tagOf bytes))
 
 -- The refusal of a reading, of the input named; zeros where the tag is valid.
 unfoldable pub refusalOf : TagRead → ℕ → Refusal

@@ -1,7 +1,7 @@
 -- Paper 01: "A tag file is the tags of a plan in order of position … Looking up a position hands back that ten-byte part of
 -- the caller's tag file. A refused lookup hands back an empty part, and a second call on the same inputs gives the refusal, or
 -- says that there is none. A lookup is put only to 9 and 7."
--- Vocabulary: tagFile, tagCount, tagPart, tagFileQuestion, lookupQuestions, lookupOf, lookupPart.
+-- Vocabulary: tagFile, tagCount, tagPart, tagFileQuestion, lookupQuestions, lookupAnswerOf, lookupPart.
 use Prim.Native.Nat.{ℕ, _*_, _/_, _%_}
 use mathlib.Core.List.{List, [], _∷_, flatMap}
 use lib.ListN.{length, take, drop}
@@ -34,8 +34,8 @@ unfoldable pub lookupQuestions : List ℕ → ℕ → List Question
 lookupQuestions tags at = tagFileQuestion tags ∷ positionQuestion at (tagCount tags) ∷ []
 
 -- The refusal, or that there is none, for every tag file and every position.
-unfoldable pub lookupOf : List ℕ → ℕ → LookupAnswer
-lookupOf tags at = firstNo (lookupQuestions tags at) Refused Found
+unfoldable pub lookupAnswerOf : List ℕ → ℕ → LookupAnswer
+lookupAnswerOf tags at = firstNo (lookupQuestions tags at) Refused Found
 
 -- The tag's part of a tag file, and nothing where the lookup is refused.
 unfoldable pub partAt : List ℕ → ℕ → LookupAnswer → List ℕ
@@ -43,4 +43,4 @@ partAt tags at Found = tagPart tags at
 partAt tags at (Refused r) = []
 
 unfoldable pub lookupPart : List ℕ → ℕ → List ℕ
-lookupPart tags at = partAt tags at (lookupOf tags at)
+lookupPart tags at = partAt tags at (lookupAnswerOf tags at)

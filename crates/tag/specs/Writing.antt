@@ -1,5 +1,5 @@
 -- Paper 01: "Writing one tag takes the five numbers and fills the first ten bytes of a lent table; it is put to 8 and 10."
--- Vocabulary: writeQuestions, writeOf, afterWrite.
+-- Vocabulary: writeQuestions, writeAnswerOf, afterWrite.
 use mathlib.Core.List.{List, [], _∷_}
 use Prim.Native.Nat.{ℕ}
 use lib.ListN.{length}
@@ -16,8 +16,8 @@ unfoldable pub writeQuestions : Numbers → List ℕ → List Question
 writeQuestions n out = roomQuestion tagLength (length out) ∷ question 10 (withinLimit n) ∷ []
 
 -- The answer for every five numbers and every table.
-unfoldable pub writeOf : Numbers → List ℕ → WriteAnswer
-writeOf n out = firstNo (writeQuestions n out) Refused Written
+unfoldable pub writeAnswerOf : Numbers → List ℕ → WriteAnswer
+writeAnswerOf n out = firstNo (writeQuestions n out) Refused Written
 
 -- The table afterwards: "what lies past the written entries stays", and a refusal alters nothing.
 unfoldable pub afterWrite : WriteAnswer → Numbers → List ℕ → List ℕ

@@ -10,7 +10,7 @@ ghost use Prim.Native.Nat.{_≤_};
 ghost use Rattle.interval_graph.specs.Numbers.{comesFirst};
 ghost use Rattle.interval_graph.specs.Numbers as rule;
 ghost use Rattle.tag.specs.Fields.{numbers, withinLimit, fieldLimit};
-ghost use Rattle.tag.specs.Pairing.{agreeing, comparedOf, pairOf, pairAtOf};
+ghost use Rattle.tag.specs.Pairing.{agreeing, comparedOf, pairAnswerOf, pairAtAnswerOf};
 
 pub enum PairAnswer {
     Handovers(u16),
@@ -102,7 +102,7 @@ fn compare(a: Tag, b: Tag) -> PairAnswer
 
 // The answer from the bytes of two tags. The second is not read where the first is refused.
 pub fn pair(first: &[u8], second: &[u8]) -> PairAnswer
-    ensures { λ r. ⌜ r ≡ pairOf (now (first .entry)) (now (second .entry)) ⌝ }
+    ensures { λ r. ⌜ r ≡ pairAnswerOf (now (first .entry)) (now (second .entry)) ⌝ }
 {
     let first_read = Tag::read(first);
     let TagRead::Valid(a) = first_read else {
@@ -117,7 +117,7 @@ pub fn pair(first: &[u8], second: &[u8]) -> PairAnswer
 
 // The answer from the tags at two positions of a tag file.
 pub fn pair_at(tags: &[u8], first: usize, second: usize) -> PairAnswer
-    ensures { λ r. ⌜ r ≡ pairAtOf (now (tags .entry)) first second ⌝ }
+    ensures { λ r. ⌜ r ≡ pairAtAnswerOf (now (tags .entry)) first second ⌝ }
 {
     if tags.len() % Tag::LENGTH != 0 {
         return PairAnswer::Refused(Refusal::by(9));

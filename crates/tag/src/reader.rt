@@ -2,7 +2,7 @@
 use wire::Refusal;
 ghost use mathlib.Core.Path.{_≡_};
 ghost use Rattle.tag.specs.Fields.{tagOf, numbers, withinLimit};
-ghost use Rattle.tag.specs.Reading.{readOf, refusalOf};
+ghost use Rattle.tag.specs.Reading.{readAnswerOf, refusalOf};
 
 // The five numbers of a window, which a reader answers from.
 pub struct Tag {
@@ -57,7 +57,7 @@ impl Tag {
 
     // The tag in its bytes. A reading does not know which input it is of, so a refusal names the first: see `refusal`.
     pub fn read(bytes: &[u8]) -> TagRead
-        ensures { λ r. ⌜ r ≡ readOf (now (bytes .entry)) ⌝ }
+        ensures { λ r. ⌜ r ≡ readAnswerOf (now (bytes .entry)) ⌝ }
     {
         if bytes.len() != Tag::LENGTH {
             return TagRead::Refused(Refusal::by(9));

@@ -5,7 +5,7 @@ ghost use mathlib.Core.Path.{_≡_};
 ghost use Prim.Native.Nat.{_+_, _*_, _≤_};
 ghost use lib.ListN.{length};
 ghost use Rattle.tag.specs.Fields.{tagLength};
-ghost use Rattle.tag.specs.TagFile.{tagPart, lookupOf, lookupPart};
+ghost use Rattle.tag.specs.TagFile.{tagPart, lookupAnswerOf, lookupPart};
 
 pub enum LookupAnswer {
     Found,
@@ -14,7 +14,7 @@ pub enum LookupAnswer {
 
 // Why a lookup hands back an empty part, or that it does not.
 pub fn lookup_refusal(tags: &[u8], at: usize) -> LookupAnswer
-    ensures { λ r. ⌜ r ≡ lookupOf (now (tags .entry)) at ⌝ }
+    ensures { λ r. ⌜ r ≡ lookupAnswerOf (now (tags .entry)) at ⌝ }
 {
     if tags.len() % Tag::LENGTH != 0 {
         return LookupAnswer::Refused(Refusal::by(9));

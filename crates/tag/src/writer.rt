@@ -7,7 +7,7 @@ ghost use Prim.Native.Nat.{_≤_};
 ghost use lib.ListN.{length};
 ghost use Rattle.sequences.specs.Table.{overwritten};
 ghost use Rattle.tag.specs.Fields.{tagLength, numbers, tagBytes};
-ghost use Rattle.tag.specs.Writing.{writeOf, afterWrite};
+ghost use Rattle.tag.specs.Writing.{writeAnswerOf, afterWrite};
 
 pub enum WriteAnswer {
     Written,
@@ -35,7 +35,7 @@ pub fn write(
     last: u16,
     out: &mut [u8],
 ) -> WriteAnswer
-    ensures { λ r. ⌜ r ≡ writeOf (record { plan = plan; component = component; depth = depth; rank = rank; last = last }) (now (out .entry)) ⌝ }
+    ensures { λ r. ⌜ r ≡ writeAnswerOf (record { plan = plan; component = component; depth = depth; rank = rank; last = last }) (now (out .entry)) ⌝ }
     ensures { λ r. ⌜ now (out .exit) ≡ afterWrite r (record { plan = plan; component = component; depth = depth; rank = rank; last = last }) (now (out .entry)) ⌝ }
 {
     if out.len() < Tag::LENGTH {

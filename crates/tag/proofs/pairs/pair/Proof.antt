@@ -5,7 +5,7 @@ use mathlib.Core.Path.{_≡_, sym, ap, _∙_}
 use denote.Ref.{now}
 use Rattle.tag.specs.declared.reader.TagRead.the-variants.{Valid}
 use Rattle.tag.specs.declared.pairs.PairAnswer.the-variants.{Refused}
-use Rattle.tag.specs.Reading.{readOf, refusalOf}
+use Rattle.tag.specs.Reading.{readAnswerOf, refusalOf}
 use Rattle.tag.proofs.Reading.{valid-reads}
 use Rattle.tag.proofs.Pairing.{pair-first-refused, pair-second-refused, pair-valid}
 use borrow.Author.Needs.{needs}
@@ -13,10 +13,10 @@ use Rattle.tag.proofs.pairs.pair.Statement.{statement}
 use Rattle.tag.proofs.pairs.pair.Tie as tie
 
 -- Each tag's reading, once the tag is taken out of it.
-first-valid : (c : tie.After-known-told) → readOf (now (c .before .before .before .before .before .before .args .first)) ≡ Valid (c .before .first-read .given .0 .0)
+first-valid : (c : tie.After-known-told) → readAnswerOf (now (c .before .before .before .before .before .before .args .first)) ≡ Valid (c .before .first-read .given .0 .0)
 first-valid c = sym (c .before .before .before .read .ensures) ∙ c .before .first-read .given .1
 
-second-valid : (c : tie.After-known-told2) → readOf (now (c .before .before .before .before .before .before .before .before .before .before .args .second)) ≡ Valid (c .before .second-read .given .0 .0)
+second-valid : (c : tie.After-known-told2) → readAnswerOf (now (c .before .before .before .before .before .before .before .before .before .before .args .second)) ≡ Valid (c .before .second-read .given .0 .0)
 second-valid c = sym (c .before .before .before .read2 .ensures) ∙ c .before .second-read .given .1
 
 read-requires : tie.Need-read-requires

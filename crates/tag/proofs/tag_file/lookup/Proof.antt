@@ -3,14 +3,14 @@
 use mathlib.Core.Path.{_≡_, sym, _∙_}
 use denote.Ref.{now}
 use Rattle.tag.specs.declared.tag_file.LookupAnswer.the-variants.{Found}
-use Rattle.tag.specs.TagFile.{lookupOf}
+use Rattle.tag.specs.TagFile.{lookupAnswerOf}
 use Rattle.tag.proofs.TagFile.{found-within, part-found, part-refused}
 use borrow.Author.Needs.{needs}
 use Rattle.tag.proofs.tag_file.lookup.Statement.{statement}
 use Rattle.tag.proofs.tag_file.lookup.Tie as tie
 
 -- What is known once the tag is found.
-found : (c : tie.After-enum-told) → lookupOf (now (c .before .before .before .before .args .tags)) (c .before .before .before .before .args .at) ≡ Found
+found : (c : tie.After-enum-told) → lookupAnswerOf (now (c .before .before .before .before .args .tags)) (c .before .before .before .before .args .at) ≡ Found
 found c = sym (c .before .before .lookup-refusal .ensures) ∙ c .enum-told .given .1
 
 lookup-refusal-requires : tie.Need-lookup-refusal-requires

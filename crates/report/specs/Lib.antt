@@ -1,2 +1,0 @@
--- What the printing calls hand back.
-pub mod Printed

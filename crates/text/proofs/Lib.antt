@@ -1,4 +1,0 @@
--- Laws of text.
-pub mod Digits
-pub mod Stops
-pub mod Cuts
