@@ -7,8 +7,7 @@ use mathlib.Core.Path.{_≡_}
 use mathlib.Core.List.{List, _++_}
 use lib.ListN.{length, getD, take, drop}
 use Rattle.sequences.specs.Table.{table, overwritten}
-use Rattle.interval_graph.specs.Tree.{parent, component, depth}
-use Rattle.interval_graph.specs.PostOrder.{rank, lastRank}
+use Rattle.interval_graph.specs.Tree.{parent, component, depth, rank, lastRank}
 use Rattle.interval_graph.specs.Numbers.{Numbers, numbersOf}
 use Rattle.plan.specs.File.{planNumber, windowCount}
 use Rattle.plan.specs.Overlap.{overlaps}
