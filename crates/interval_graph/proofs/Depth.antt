@@ -6,7 +6,7 @@ use mathlib.Core.Bool.{true, false}
 use mathlib.Core.Path.{_≡_, refl, sym, ap, _∙_}
 use mathlib.Core.Logic.{⊎-elim}
 use native.Mathlib.Omega.{arith}
-use borrow.Author.Tests.{eqb-true, eqb-false, eq-eqb}
+use borrow.Author.Tests.{eqb-true, eqb-false, eq-eqb, ne-eqb}
 use Rattle.sequences.proofs.Tests.{lt-or-ge}
 use Rattle.sequences.proofs.Search.{least-le, least-holds, least-before, least-minimal}
 use Rattle.interval_graph.specs.Forest.{isRoot, ancestor, depth, root, Forest}
@@ -22,6 +22,11 @@ module _ {parent : ℕ → ℕ} (forest : Forest parent) where
   pub fixed-root : (v : ℕ) → parent v ≡ v → isRoot parent v ≡ true
   unfolding isRoot
   fixed-root v e = eq-eqb (parent v) v e
+
+  -- What has its parent before it is no root.
+  pub below-not-root : (v : ℕ) → parent v < v → isRoot parent v ≡ false
+  unfolding isRoot
+  below-not-root v h = ne-eqb (parent v) v (λ e. omega arith)
 
   -- What is no root has its parent before it.
   pub not-root-below : (v : ℕ) → isRoot parent v ≡ false → parent v < v
