@@ -17,7 +17,8 @@ use Rattle.interval_graph.proofs.Ancestor.{ancestor-below}
 use Rattle.interval_graph.proofs.Depth.{root-le}
 
 module _ {n : ℕ} {first second : ℕ → ℕ} (later : Forest second) (same : (v : ℕ) → v < n → first v ≡ second v) where
-  root-test-agrees : (v : ℕ) → v < n → isRoot first v ≡ isRoot second v
+  -- Whether a window is a root depends on the parents of windows only.
+  pub root-test-agrees : (v : ℕ) → v < n → isRoot first v ≡ isRoot second v
   unfolding isRoot
   root-test-agrees v h = ap (λ (p : ℕ). eqb p v) (same v h)
 

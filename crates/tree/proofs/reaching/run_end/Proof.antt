@@ -1,21 +1,20 @@
--- `tree::reaching::last_in_component` meets its contract. The loop's invariant is `InComponent`; the measure is what is left of the
--- windows.
+-- `tree::reaching::run_end` meets its contract. The loop's invariant is `Running`; the measure is what is left of the table.
 -- Assumes nothing.
 use Prim.Native.Nat.{_-_}
 use native.Mathlib.Omega.{arith}
-use Rattle.tree.proofs.Reached.{InComponent, in-component-start, in-component-turn, last-stops, last-ends}
+use Rattle.tree.proofs.Reached.{Running, running-start, running-turn, running-stops, running-ends}
 use borrow.Author.Needs.{needs}
-use Rattle.tree.proofs.reaching.last_in_component.Statement.{statement}
-use Rattle.tree.proofs.reaching.last_in_component.Tie as tie
+use Rattle.tree.proofs.reaching.run_end.Statement.{statement}
+use Rattle.tree.proofs.reaching.run_end.Tie as tie
 
 abbrev Inv-loop : tie.InvT-loop
-Inv-loop file windows components at last₀ last = InComponent windows components at last
+Inv-loop table entries at last₀ last = Running table entries at last
 
 abbrev μ-loop : tie.MeasureT-loop
-μ-loop file windows components at last₀ last = windows - last
+μ-loop table entries at last₀ last = entries - last
 
 loop-holds : tie.Need-loop-holds Inv-loop μ-loop
-loop-holds c = in-component-start _ _ _ (c .pre .1 .1 .1)
+loop-holds c = running-start _ _ _ (c .pre .1)
 
 add-loop : tie.Need-add-loop Inv-loop μ-loop
 add-loop c = search needs
@@ -36,8 +35,7 @@ shared-slice-read-if1-2 : tie.Need-shared-slice-read-if1-2 Inv-loop μ-loop
 shared-slice-read-if1-2 c = search needs
 
 returns : tie.Need-returns Inv-loop μ-loop
-returns c = let q = c .before .before .before .before .before .pre in
-    last-stops _ _ _ (q .0) (q .1 .0) (q .1 .1 .0) _ _ (c .before .before .before .before .loop .inv) (c .before .before .before .loop-test .taken) (c .if1 .taken)
+returns c = running-stops _ _ _ _ (c .before .before .before .before .loop .inv) (c .if1 .taken)
 
 add-last : tie.Need-add-last Inv-loop μ-loop
 add-last c = search needs
@@ -46,14 +44,13 @@ loop-less : tie.Need-loop-less Inv-loop μ-loop
 loop-less c = search needs
 
 loop-again : tie.Need-loop-again Inv-loop μ-loop
-loop-again c = search needs
+loop-again c = running-turn _ _ _ _ (c .before .before .before .before .loop .inv) (c .before .before .before .loop-test .taken) (c .if1 .left)
 
 returns-2 : tie.Need-returns-2 Inv-loop μ-loop
-returns-2 c = let q = c .before .before .pre in
-    last-ends _ _ _ (q .0) (q .1 .0) (q .1 .1 .0) _ _ (c .before .loop .inv) (c .loop-test .left)
+returns-2 c = running-ends _ _ _ _ (c .before .loop .inv) (c .loop-test .left)
 
-pub last-in-component-spec : {M : Type 1} → statement M
-last-in-component-spec =
+pub run-end-spec : {M : Type 1} → statement M
+run-end-spec =
     tie.close
     (tie.spec
     Inv-loop

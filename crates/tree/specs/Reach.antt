@@ -1,5 +1,5 @@
 -- Paper 01, "Calls on a plan": "The reach of a position's component is the depth of its last window plus 1".
--- Vocabulary: reachQuestions, reachOf.
+-- Vocabulary: reachQuestions, reachAnswerOf.
 use Prim.Native.Nat.{ℕ}
 use mathlib.Core.List.{List, [], _∷_, _++_}
 use lib.Dec.{ltb}
@@ -15,5 +15,5 @@ use Rattle.tree.specs.declared.answers.ReachAnswer.the-variants.{Reach, 
 unfoldable pub reachQuestions : List ℕ → ℕ → List Question
 reachQuestions file at = planQuestions 0 file ++ (question 7 0 0 (ltb at (windowCount file)) ∷ [])
 
-unfoldable pub reachOf : List ℕ → ℕ → ReachAnswer
-reachOf file at = firstNo (reachQuestions file at) Refused (Reach (reach (windowCount file) (overlaps file) at))
+unfoldable pub reachAnswerOf : List ℕ → ℕ → ReachAnswer
+reachAnswerOf file at = firstNo (reachQuestions file at) Refused (Reach (reach (windowCount file) (overlaps file) at))
