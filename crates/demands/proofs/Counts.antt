@@ -13,8 +13,7 @@ use borrow.Author.Tests.{eqb-true, eq-eqb, leb-true, le-leb, lt-ltb}
 use Rattle.sequences.proofs.Tests.{truth, and-left, and-right, cond-cases}
 use Rattle.interval_graph.specs.Order.{IntervalOrder}
 use Rattle.interval_graph.specs.Chain.{firstEntry, handovers, Joined, LeastHandovers, EarliestShortest}
-use Rattle.interval_graph.specs.Tree.{component}
-use Rattle.interval_graph.specs.PostOrder.{rank}
+use Rattle.interval_graph.specs.Tree.{component, rank}
 use Rattle.interval_graph.specs.Numbers.{Numbers, numbersOf, Outcome, apart, no-chain, equal, outcome}
 use Rattle.interval_graph.proofs.Outcome.{equal-refl}
 use Rattle.interval_graph.proofs.Rule.{outcome-apart, outcome-no-chain, same-window}

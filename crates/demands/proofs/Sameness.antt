@@ -4,8 +4,7 @@ use Prim.Native.Nat.{ℕ, _<_}
 use mathlib.Core.Path.{_≡_, refl, sym, ap, _∙_}
 use mathlib.Core.List.{List, _++_}
 use lib.ListN.{drop}
-use Rattle.interval_graph.specs.Tree.{component, depth}
-use Rattle.interval_graph.specs.PostOrder.{rank, lastRank}
+use Rattle.interval_graph.specs.Tree.{component, depth, rank, lastRank}
 use Rattle.interval_graph.specs.Numbers.{Numbers, numbersOf}
 use Rattle.interval_graph.proofs.Sameness.{SameNumbers}
 use Rattle.wire.specs.LittleEndian.{bytes16}

@@ -2,56 +2,36 @@
 -- every least number of handovers.
 -- Vocabulary: component, depth, rank, lastRank, LeastHandovers.
 -- Assumes nothing.
-use Prim.Native.Nat.{ℕ, zero, suc, _+_, _-_, _≤_, _<_}
+use Prim.Native.Nat.{ℕ, zero, suc, _-_, _≤_, _<_}
 use mathlib.Core.Bool.{Bool}
 use mathlib.Core.Path.{_≡_, refl, sym, ap, _∙_}
 use mathlib.Core.Logic.{⊎-elim}
 use native.Mathlib.Omega.{arith}
 use Rattle.sequences.proofs.Tests.{lt-or-ge}
-use Rattle.sequences.proofs.Search.{count-le}
 use Rattle.interval_graph.specs.Order.{IntervalOrder}
 use Rattle.interval_graph.specs.Chain.{handovers, LeastHandovers}
-use Rattle.interval_graph.specs.Tree.{last, parent, isRoot, ancestor, depth, root, component}
+use Rattle.interval_graph.specs.Tree.{last, parent, ancestor, depth, root, component, rank, lastRank}
 use Rattle.interval_graph.specs.Walk.{climb, chainOf}
-use Rattle.interval_graph.specs.PostOrder.{rank, lastRank}
-use Rattle.interval_graph.specs.Size.{size, start}
 use Rattle.interval_graph.proofs.Last.{last-ge, last-below}
-use Rattle.interval_graph.proofs.Parent.{parent-last}
+use Rattle.interval_graph.proofs.Parent.{parent-last, tree}
 use Rattle.interval_graph.proofs.Ancestor.{ancestor-suc, ancestor-below}
 use Rattle.interval_graph.proofs.Depth.{depth-le, root-le, ancestor-sum, ancestor-past}
 use Rattle.interval_graph.proofs.Chains.{handovers-alone, least-handovers-joined}
 use Rattle.interval_graph.proofs.Climb.{climb-before, climb-le-depth}
 use Rattle.interval_graph.proofs.ShortestChain.{chain-same, chain-symmetric, joined-root, least-is-chain}
-use Rattle.interval_graph.proofs.Rank.{rank-below, postOrder-length}
-use Rattle.interval_graph.proofs.Size.{rank-size}
+use Rattle.interval_graph.proofs.Rank.{rank-lt}
 use Rattle.interval_graph.proofs.Rule.{chain-handovers}
+use Rattle.interval_graph.proofs.Component.{component-le}
 
 module _ {n : ℕ} {overlaps : ℕ → ℕ → Bool} (ok : IntervalOrder n overlaps) where
-  -- The component of a window is below the number of windows.
-  pub component-lt : (v : ℕ) → v < n → component overlaps v < n
-  unfolding component
-  component-lt v h = omega (arith, count-le (isRoot overlaps) (root overlaps v), root-le overlaps v)
-
-  -- Its depth is below the number of windows.
-  pub depth-lt : (v : ℕ) → v < n → depth overlaps v < n
-  depth-lt v h = omega (arith, depth-le overlaps v)
-
-  -- Its rank is below the number of windows.
-  pub rank-lt : (v : ℕ) → v < n → rank n overlaps v < n
-  rank-lt v h = omega (arith, rank-below ok v h, postOrder-length ok (root overlaps v) (omega (arith, root-le overlaps v)))
-
   -- The rank of its last is below the number of windows.
   pub lastRank-lt : (v : ℕ) → v < n → lastRank n overlaps v < n
   unfolding lastRank
-  lastRank-lt v h = rank-lt (last n overlaps v) (last-below ok v h)
+  lastRank-lt v h = rank-lt n (tree overlaps) (last n overlaps v) (last-below ok v h)
 
   -- So of at most 2,048 windows they are at most 2,047.
   pub numbers-small : (v : ℕ) → n ≤ 2048 → v < n → (component overlaps v ≤ 2047) × (depth overlaps v ≤ 2047) × (rank n overlaps v ≤ 2047) × (lastRank n overlaps v ≤ 2047)
-  numbers-small v b h = omega (arith, component-lt v h, depth-lt v h, rank-lt v h, lastRank-lt v h)
-
-  -- A list ends within the number of windows, counted from where it begins in its root's.
-  pub start-size-le : (v : ℕ) → v < n → start n overlaps v + size n overlaps v ≤ n
-  start-size-le v h = omega (arith, rank-size n overlaps v h, rank-lt v h)
+  numbers-small v b h = omega (arith, component-le (tree overlaps) v, depth-le (tree overlaps) v, rank-lt n (tree overlaps) v h, lastRank-lt v h)
 
   -- What bounds the steps up from the later of two windows, and one more, bounds a least number of handovers.
   pub least-le : (a b k m : ℕ) → a < n → b < n → LeastHandovers n overlaps a b k → (a < b → climb n overlaps a b < m) → (b < a → climb n overlaps b a < m) → k ≤ m
@@ -71,12 +51,12 @@ module _ {n : ℕ} {overlaps : ℕ → ℕ → Bool} (ok : IntervalOrder n overl
       by-depth zero s = omega (arith, climb-le-depth ok u v e)
       by-depth (suc d) s =
           let x = ancestor overlaps d v in
-          let top : parent overlaps x ≡ root overlaps u = sym (ancestor-suc overlaps d v) ∙ (ancestor-past overlaps v (suc d) (omega arith) ∙ sym e) in
-          let covers : x ≤ last n overlaps (root overlaps u) = rw top at (parent-last ok x (ancestor-below overlaps d v g)) in
-          ⊎-elim (λ l. omega (arith, depth-le overlaps v))
+          let top : parent overlaps x ≡ root overlaps u = sym (ancestor-suc (tree overlaps) d v) ∙ (ancestor-past (tree overlaps) v (suc d) (omega arith) ∙ sym e) in
+          let covers : x ≤ last n overlaps (root overlaps u) = rw top at (parent-last ok x (ancestor-below (tree overlaps) d v g)) in
+          ⊎-elim (λ l. omega (arith, depth-le (tree overlaps) v))
           (λ l. let behind : last n overlaps u < x = climb-before n overlaps u v d (omega arith) in
-          ⊎-elim (λ m. omega (arith, ancestor-sum overlaps d v (omega arith), last-ge ok u, climb-le-depth ok u v e))
-          (λ m. let r : root overlaps u ≡ u = omega (arith, root-le overlaps u) in absurd (omega (arith, ap (last n overlaps) r)))
+          ⊎-elim (λ m. omega (arith, ancestor-sum (tree overlaps) d v (omega arith), last-ge ok u, climb-le-depth ok u v e))
+          (λ m. let r : root overlaps u ≡ u = omega (arith, root-le (tree overlaps) u) in absurd (omega (arith, ap (last n overlaps) r)))
           (lt-or-ge (root overlaps u) u))
           (lt-or-ge (climb n overlaps u v) (depth overlaps v))
 

@@ -170,24 +170,12 @@ module _ (n : ℕ) (overlaps : ℕ → ℕ → Bool) where
   joins-not-empty a b t =
       ⊎-elim (λ s. chain-not-empty (leads-chain a b [] s)) (λ s. chain-not-empty (leads-chain b a [] s)) (joins-cases a b [] t)
 
-  -- What joins a and b joins b and a.
-  pub joined-swap : (a b : ℕ) → Joined n overlaps a b → Joined n overlaps b a
-  joined-swap a b j = (j .0, joins-swap a b (j .0) (j .1))
-
   -- least numbers
 
   -- There is one least number of handovers.
   pub least-handovers-unique : (a b k j : ℕ) → LeastHandovers n overlaps a b k → LeastHandovers n overlaps a b j → k ≡ j
   least-handovers-unique a b k j p q =
       omega (arith, p .none-fewer (q .attained .0) (q .attained .1), q .none-fewer (p .attained .0) (p .attained .1), p .attained .2, q .attained .2)
-
-  -- The least number is the same in either order of naming.
-  pub least-handovers-swap : (a b k : ℕ) → LeastHandovers n overlaps a b k → LeastHandovers n overlaps b a k
-  least-handovers-swap a b k p =
-      record {
-        attained = (p .attained .0, joins-swap a b (p .attained .0) (p .attained .1), p .attained .2);
-        none-fewer = λ l t. p .none-fewer l (joins-swap b a l t);
-      }
 
   -- Where there is a least number, some chain joins the two.
   pub least-handovers-joined : (a b k : ℕ) → LeastHandovers n overlaps a b k → Joined n overlaps a b

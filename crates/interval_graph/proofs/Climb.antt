@@ -18,9 +18,10 @@ use Rattle.interval_graph.specs.Chain.{lastEntry, isChain}
 use Rattle.interval_graph.specs.Tree.{last, parent, ancestor, depth, root}
 use Rattle.interval_graph.specs.Walk.{climb}
 use Rattle.interval_graph.proofs.Last.{last-ge, neighbour-le-last}
-use Rattle.interval_graph.proofs.Parent.{parent-least}
+use Rattle.interval_graph.proofs.Parent.{parent-least, tree}
 use Rattle.interval_graph.proofs.Ancestor.{ancestor-zero, ancestor-parent, ancestor-antitone}
-use Rattle.interval_graph.proofs.Depth.{root-le, depth-le, ancestor-past, overlap-root}
+use Rattle.interval_graph.proofs.Monotone.{overlap-root}
+use Rattle.interval_graph.proofs.Depth.{root-le, depth-le, ancestor-past}
 use Rattle.interval_graph.proofs.Chains.{chain-head, chain-overlap, chain-tail}
 
 -- climb, of any overlap test
@@ -48,7 +49,7 @@ module _ (n : ℕ) (overlaps : ℕ → ℕ → Bool) where
   pub climb-gt : (u v k : ℕ) → climb n overlaps u v ≤ v → last n overlaps u < ancestor overlaps k v → k < climb n overlaps u v
   climb-gt u v k r h =
       ⊎-elim (λ g. g)
-      (λ g. absurd (omega (arith, climb-reaches u v r, ancestor-antitone overlaps (climb n overlaps u v) k v g)))
+      (λ g. absurd (omega (arith, climb-reaches u v r, ancestor-antitone (tree overlaps) (climb n overlaps u v) k v g)))
       (lt-or-ge k (climb n overlaps u v))
 
 module _ {n : ℕ} {overlaps : ℕ → ℕ → Bool} (ok : IntervalOrder n overlaps) where
@@ -56,11 +57,11 @@ module _ {n : ℕ} {overlaps : ℕ → ℕ → Bool} (ok : IntervalOrder n overl
   pub climb-le-depth : (u v : ℕ) → root overlaps u ≡ root overlaps v → climb n overlaps u v ≤ depth overlaps v
   climb-le-depth u v e =
       climb-le n overlaps u v (depth overlaps v)
-      (omega (arith, ancestor-past overlaps v (depth overlaps v) (omega arith), root-le overlaps u, last-ge ok u))
+      (omega (arith, ancestor-past (tree overlaps) v (depth overlaps v) (omega arith), root-le (tree overlaps) u, last-ge ok u))
 
   -- In one component there are such steps.
   pub climb-le-position : (u v : ℕ) → root overlaps u ≡ root overlaps v → climb n overlaps u v ≤ v
-  climb-le-position u v e = omega (arith, climb-le-depth u v e, depth-le overlaps v)
+  climb-le-position u v e = omega (arith, climb-le-depth u v e, depth-le (tree overlaps) v)
 
   -- A position at most one of two windows that overlap has its parent at most the other.
   parent-le-neighbour : (x y w : ℕ) → x < n → overlaps x y ≡ true → w ≤ x → parent overlaps w ≤ y
@@ -69,22 +70,22 @@ module _ {n : ℕ} {overlaps : ℕ → ℕ → Bool} (ok : IntervalOrder n overl
 
   -- From a position at most a chain's first entry, i steps up lead at or before its entry at i.
   pub ancestor-le-chain : (l : List ℕ) (x w i : ℕ) → isChain n overlaps (x ∷ l) ≡ true → w ≤ x → i < length (x ∷ l) → ancestor overlaps i w ≤ getD (x ∷ l) i 0
-  ancestor-le-chain [] x w zero c h b = omega (arith, ancestor-zero overlaps w)
+  ancestor-le-chain [] x w zero c h b = omega (arith, ancestor-zero (tree overlaps) w)
   ancestor-le-chain [] x w (suc i) c h b = absurd (omega arith)
-  ancestor-le-chain (y ∷ l) x w zero c h b = omega (arith, ancestor-zero overlaps w)
+  ancestor-le-chain (y ∷ l) x w zero c h b = omega (arith, ancestor-zero (tree overlaps) w)
   ancestor-le-chain (y ∷ l) x w (suc i) c h b =
       let p : parent overlaps w ≤ y = parent-le-neighbour x y w (chain-head n overlaps x (y ∷ l) c) (chain-overlap n overlaps x y l c) h in
-      omega (arith, ancestor-parent overlaps i w, ancestor-le-chain l y (parent overlaps w) i (chain-tail n overlaps x y l c) p (omega arith))
+      omega (arith, ancestor-parent (tree overlaps) i w, ancestor-le-chain l y (parent overlaps w) i (chain-tail n overlaps x y l c) p (omega arith))
 
   -- And one step less than its handovers leads to a position at most the last of its last entry.
   pub chain-climbs : (l : List ℕ) (x y w u : ℕ) → isChain n overlaps (x ∷ (y ∷ l)) ≡ true → lastEntry (x ∷ (y ∷ l)) ≡ u → w ≤ x → ancestor overlaps (length l) w ≤ last n overlaps u
   unfolding lastEntry
   chain-climbs [] x y w u c e h =
       let t : overlaps u x ≡ true = ap (λ z. overlaps z x) (sym e) ∙ (ok .symmetric y x ∙ chain-overlap n overlaps x y [] c) in
-      omega (arith, ancestor-zero overlaps w, neighbour-le-last ok u x (chain-head n overlaps x (y ∷ []) c) t)
+      omega (arith, ancestor-zero (tree overlaps) w, neighbour-le-last ok u x (chain-head n overlaps x (y ∷ []) c) t)
   chain-climbs (z ∷ l) x y w u c e h =
       let p : parent overlaps w ≤ y = parent-le-neighbour x y w (chain-head n overlaps x (y ∷ (z ∷ l)) c) (chain-overlap n overlaps x y (z ∷ l) c) h in
-      omega (arith, ancestor-parent overlaps (length l) w, chain-climbs l y z (parent overlaps w) u (chain-tail n overlaps x y (z ∷ l) c) e p)
+      omega (arith, ancestor-parent (tree overlaps) (length l) w, chain-climbs l y z (parent overlaps w) u (chain-tail n overlaps x y (z ∷ l) c) e p)
 
   -- The windows of a chain are in one component.
   pub chain-root : (l : List ℕ) (x : ℕ) → isChain n overlaps (x ∷ l) ≡ true → root overlaps x ≡ root overlaps (lastEntry (x ∷ l))

@@ -12,15 +12,16 @@ use lib.Dec.{ltb, leb}
 use borrow.Author.Tests.{lt-ltb, le-ltb, le-leb, lt-leb}
 use Rattle.sequences.proofs.Tests.{lt-or-ge, and-true-right, and-false-right, or-false-right, or-right}
 use Rattle.interval_graph.specs.Order.{IntervalOrder}
-use Rattle.interval_graph.specs.Tree.{last, parent, ancestor, depth, root}
-use Rattle.interval_graph.specs.PostOrder.{rank}
+use Rattle.interval_graph.specs.Tree.{last, parent, ancestor, depth, root, rank}
 use Rattle.interval_graph.specs.Walk.{climb}
 use Rattle.interval_graph.proofs.Last.{last-ge, last-below}
-use Rattle.interval_graph.proofs.Parent.{parent-le, parent-least}
+use Rattle.interval_graph.proofs.Parent.{parent-le, parent-least, tree}
 use Rattle.interval_graph.proofs.Ancestor.{ancestor-zero, ancestor-suc, ancestor-le, ancestor-below}
-use Rattle.interval_graph.proofs.Depth.{root-le, depth-step, depth-ancestor, fixed-is-root, root-of-parent, root-of-ancestor, shallower-earlier, last-root, last-depth-ge, last-depth-le}
+use Rattle.interval_graph.proofs.Monotone.{shallower-earlier, last-root, last-depth-ge, last-depth-le}
+use Rattle.interval_graph.proofs.Depth.{root-le, depth-step, depth-ancestor, fixed-is-root, root-of-parent, root-of-ancestor}
 use Rattle.interval_graph.proofs.Climb.{climb-le, climb-gt, climb-le-position}
-use Rattle.interval_graph.proofs.Rank.{rank-injective, rank-lt-iff}
+use Rattle.interval_graph.proofs.Before.{rank-lt-iff}
+use Rattle.interval_graph.proofs.Rank.{rank-injective}
 
 -- u before v in one component, v deeper by D.
 pub record Pair (n : ℕ) (overlaps : ℕ → ℕ → Bool) (u v D : ℕ) : Type 0 where
@@ -32,10 +33,10 @@ pub record Pair (n : ℕ) (overlaps : ℕ → ℕ → Bool) (u v D : ℕ) : Type
 module _ {n : ℕ} {overlaps : ℕ → ℕ → Bool} (ok : IntervalOrder n overlaps) where
   -- An ancestor of v that is no higher than u is as much deeper than u as steps are left of the D, and has u's root.
   level-depth : (u v D i k : ℕ) → Pair n overlaps u v D → D ≡ i + k → depth overlaps (ancestor overlaps i v) ≡ depth overlaps u + k
-  level-depth u v D i k p e = omega (arith, depth-ancestor overlaps i v (omega (arith, p .levels)), p .levels)
+  level-depth u v D i k p e = omega (arith, depth-ancestor (tree overlaps) i v (omega (arith, p .levels)), p .levels)
 
   level-root : (u v D i : ℕ) → Pair n overlaps u v D → root overlaps (ancestor overlaps i v) ≡ root overlaps u
-  level-root u v D i p = root-of-ancestor overlaps i v ∙ sym (p .one-root)
+  level-root u v D i p = root-of-ancestor (tree overlaps) i v ∙ sym (p .one-root)
 
   -- An ancestor of v that is deeper than the last of u stands behind it.
   level-behind : (u v D i k : ℕ) → Pair n overlaps u v D → D ≡ i + k → depth overlaps (last n overlaps u) < depth overlaps u + k → last n overlaps u < ancestor overlaps i v
@@ -53,7 +54,7 @@ module _ {n : ℕ} {overlaps : ℕ → ℕ → Bool} (ok : IntervalOrder n overl
       let x = ancestor overlaps D v in
       ⊎-elim
       (λ l. omega (arith, climb-le n overlaps u v (suc D) g, climb-gt n overlaps u v D (climb-le-position ok u v (p .one-root)) l))
-      (λ l. absurd (omega (arith, parent-least ok x u l, ancestor-suc overlaps D v)))
+      (λ l. absurd (omega (arith, parent-least ok x u l, ancestor-suc (tree overlaps) D v)))
       (lt-or-ge (last n overlaps u) x)
 
   -- Where u stands before w, and w is behind the last of u, one climbs D + 1 steps.
@@ -61,14 +62,14 @@ module _ {n : ℕ} {overlaps : ℕ → ℕ → Bool} (ok : IntervalOrder n overl
   climb-past-level u v D p h g =
       let w = ancestor overlaps D v in
       let above : parent overlaps w ≤ u = parent-before u v D p h in
-      omega (arith, climb-gt n overlaps u v D (climb-le-position ok u v (p .one-root)) g, climb-le n overlaps u v (suc D) (omega (arith, ancestor-suc overlaps D v, last-ge ok u)))
+      omega (arith, climb-gt n overlaps u v D (climb-le-position ok u v (p .one-root)) g, climb-le n overlaps u v (suc D) (omega (arith, ancestor-suc (tree overlaps) D v, last-ge ok u)))
     where
       parent-before : (u v D : ℕ) → Pair n overlaps u v D → u < ancestor overlaps D v → parent overlaps (ancestor overlaps D v) ≤ u
       parent-before u v D p h =
           let w = ancestor overlaps D v in
           ⊎-elim
-          (λ l. omega (arith, shallower-earlier ok (parent overlaps w) u (omega (arith, parent-le overlaps w, ancestor-le overlaps D v, p .window)) (root-of-parent overlaps w ∙ level-root u v D D p) (omega (arith, depth-step overlaps w l, level-depth u v D D 0 p (omega arith)))))
-          (λ l. absurd (omega (arith, fixed-is-root overlaps w (omega (arith, parent-le overlaps w)), level-root u v D D p, root-le overlaps u)))
+          (λ l. omega (arith, shallower-earlier ok (parent overlaps w) u (omega (arith, parent-le overlaps w, ancestor-le (tree overlaps) D v, p .window)) (root-of-parent (tree overlaps) w ∙ level-root u v D D p) (omega (arith, depth-step (tree overlaps) w l, level-depth u v D D 0 p (omega arith)))))
+          (λ l. absurd (omega (arith, fixed-is-root (tree overlaps) w (omega (arith, parent-le overlaps w)), level-root u v D D p, root-le (tree overlaps) u)))
           (lt-or-ge (parent overlaps w) w)
 
   -- Where the ancestor below w is at most the last of u, one climbs one step less than to w.
@@ -95,7 +96,7 @@ module _ {n : ℕ} {overlaps : ℕ → ℕ → Bool} (ok : IntervalOrder n overl
   last-rank-level u h e =
       let z = last n overlaps u in
       ⊎-elim
-      (λ l. absurd (omega (arith, rank-lt-iff ok z u 0 (last-below ok u h) h (last-root ok u h) (omega arith) .0 l, ancestor-zero overlaps u, last-ge ok u)))
+      (λ l. absurd (omega (arith, rank-lt-iff ok z u 0 (last-below ok u h) h (last-root ok u h) (omega arith) .0 l, ancestor-zero (tree overlaps) u, last-ge ok u)))
       (λ l. l) (lt-or-ge (rank n overlaps z) (rank n overlaps u))
 
   -- A last one level deeper has a smaller rank than the window.
@@ -104,8 +105,8 @@ module _ {n : ℕ} {overlaps : ℕ → ℕ → Bool} (ok : IntervalOrder n overl
       let z = last n overlaps u in
       ⊎-elim (λ l. l)
       (λ l. absurd (⊎-elim
-      (λ m. omega (arith, rank-lt-iff ok u z 1 h (last-below ok u h) (sym (last-root ok u h)) (omega arith) .0 m, ancestor-suc overlaps 0 z, ap (parent overlaps) (ancestor-zero overlaps z), parent-least ok z u (omega arith)))
-      (λ m. let s : u ≡ z = rank-injective ok u z h (last-below ok u h) (sym (last-root ok u h)) (omega arith) in omega (arith, ap (depth overlaps) s))
+      (λ m. omega (arith, rank-lt-iff ok u z 1 h (last-below ok u h) (sym (last-root ok u h)) (omega arith) .0 m, ancestor-suc (tree overlaps) 0 z, ap (parent overlaps) (ancestor-zero (tree overlaps) z), parent-least ok z u (omega arith)))
+      (λ m. let s : u ≡ z = rank-injective n (tree overlaps) u z h (last-below ok u h) (sym (last-root ok u h)) (omega arith) in omega (arith, ap (depth overlaps) s))
       (lt-or-ge (rank n overlaps u) (rank n overlaps z))))
       (lt-or-ge (rank n overlaps z) (rank n overlaps u))
 
@@ -138,7 +139,7 @@ module _ {n : ℕ} {overlaps : ℕ → ℕ → Bool} (ok : IntervalOrder n overl
     where
       level-before : (u v D : ℕ) → Pair n overlaps u v D → u < n → depth overlaps (last n overlaps u) ≡ suc (depth overlaps u) → ancestor overlaps D v < last n overlaps u
       level-before u v D p h e =
-          shallower-earlier ok (ancestor overlaps D v) (last n overlaps u) (ancestor-below overlaps D v (p .window))
+          shallower-earlier ok (ancestor overlaps D v) (last n overlaps u) (ancestor-below (tree overlaps) D v (p .window))
           (level-root u v D D p ∙ sym (last-root ok u h)) (omega (arith, level-depth u v D D 0 p (omega arith)))
 
   -- Whether the ancestor below w is at most the last of u.

@@ -1,23 +1,29 @@
 -- Laws, in the order in which they rest on one another.
---   Last, Parent, Ancestor, Depth, Component   the tree
+--   Ancestor, Depth, Component                 any forest: steps up, roots, components
+--   PostOrder, Size, Rank                      any forest: post-order, ranks from sizes, each window once
+--   Agreement                                  two parent functions that agree on the windows
+--   Last, Parent, Monotone                     the forest of an overlap test in interval order
 --   Chains, Climb, Walk, ShortestChain         chains, and that the one written is the earliest shortest
---   PostOrder, Rank, Size                      post-order, the order of ranks, and ranks from sizes
+--   Before                                     the order of ranks
 --   Level, Rule                                that the rule on two windows' numbers gives the least count
---   Outcome                                    the rule on any two windows' numbers, in either order
 --   Bounds, Reach, Sameness                    how great the numbers become, and what they say of the whole
+--   Outcome                                    the rule on any two windows' numbers, in either order
 --   Plan12                                     the worked example, by computation
-pub mod Last
-pub mod Parent
 pub mod Ancestor
 pub mod Depth
 pub mod Component
+pub mod PostOrder
+pub mod Size
+pub mod Rank
+pub mod Agreement
+pub mod Last
+pub mod Parent
+pub mod Monotone
 pub mod Chains
 pub mod Climb
 pub mod Walk
 pub mod ShortestChain
-pub mod PostOrder
-pub mod Rank
-pub mod Size
+pub mod Before
 pub mod Level
 pub mod Rule
 pub mod Bounds

@@ -11,6 +11,7 @@ use lib.Dec.{ltb, leb, eqb}
 use borrow.Author.Tests.{ltb-true, leb-true, eqb-true, eqb-false, lt-ltb, le-ltb, le-leb, lt-leb, eq-eqb, ne-eqb}
 use Rattle.sequences.proofs.Tests.{truth, cond-cases, lt-or-ge, true-false-absurd, and-left, and-right, and-intro, or-cases, or-left, or-right, eqb-symmetric}
 use Rattle.interval_graph.specs.Numbers.{Numbers, apart, no-chain, equal, comesFirst, between, outcome}
+use Rattle.interval_graph.specs.Tree.{depth, rank}
 
 -- The four cases of the count for u before v. "Rising" is rank u < rank v.
 module _ (u v : Numbers) where

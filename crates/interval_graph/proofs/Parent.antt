@@ -9,6 +9,7 @@ use native.Mathlib.Omega.{arith}
 use Rattle.sequences.proofs.Tests.{lt-or-ge}
 use Rattle.sequences.proofs.Search.{least-le, least-holds, least-minimal}
 use Rattle.interval_graph.specs.Order.{IntervalOrder}
+use Rattle.interval_graph.specs.Forest.{Forest}
 use Rattle.interval_graph.specs.Tree.{last, parent}
 use Rattle.interval_graph.proofs.Last.{last-ge, overlap-last, last-overlap}
 
@@ -16,6 +17,10 @@ use Rattle.interval_graph.proofs.Last.{last-ge, overlap-last, last-over
 pub parent-le : (overlaps : ℕ → ℕ → Bool) (v : ℕ) → parent overlaps v ≤ v
 unfolding parent
 parent-le overlaps v = least-le (λ u. overlaps u v) v
+
+-- So these parents make a forest.
+pub tree : (overlaps : ℕ → ℕ → Bool) → Forest (parent overlaps)
+tree overlaps = record { parent-le = parent-le overlaps }
 
 -- The parent of v overlaps v, unless it is v.
 pub parent-overlaps : (overlaps : ℕ → ℕ → Bool) (v : ℕ) → parent overlaps v < v → overlaps (parent overlaps v) v ≡ true

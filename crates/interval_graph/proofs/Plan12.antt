@@ -6,16 +6,16 @@ use mathlib.Core.Bool.{Bool, true, not, _&&_}
 use mathlib.Core.Path.{_≡_, refl}
 use mathlib.Core.List.{List, [], _∷_, flatMap}
 use lib.ListN.{getD}
-use lib.Dec.{ltb, leb, eqb}
+use lib.Dec.{ltb, eqb}
 use Rattle.sequences.specs.Search.{least, greatest, count, passing}
-use Rattle.sequences.specs.Lists.{indexOf}
+use Rattle.sequences.specs.Lists.{indexOf, total}
 use Rattle.sequences.specs.Table.{table}
 use Rattle.interval_graph.specs.Chain.{handovers, isChain, leads, joins, firstEntry, lastEntry}
-use Rattle.interval_graph.specs.Tree.{last, parent, isRoot, ancestor, depth, root, component}
+use Rattle.interval_graph.specs.Tree.{last, parent, depth, component, rank, lastRank}
 use Rattle.interval_graph.specs.Walk.{climb, walk, chainOf}
 use Rattle.interval_graph.specs.Reach.{lastInComponent, reach}
-use Rattle.interval_graph.specs.PostOrder.{children, postOrderTo, postOrder, rank, lastRank}
 use Rattle.interval_graph.specs.Numbers.{Outcome, numbersOf, apart, no-chain, equal, comesFirst, between, outcome}
+use Rattle.interval_graph.specs.Forest as Forest
 
 unfoldable pub offsets : List ℕ
 offsets = 0 ∷ 2 ∷ 4 ∷ 9 ∷ 12 ∷ 17 ∷ 18 ∷ []
@@ -32,7 +32,7 @@ overlaps u v =
 
 -- What a computation of plan 12 opens: naming it on an `unfolding` line opens all that its own line names.
 unfoldable pub definitions : Unit {0}
-unfolding table overlaps offsets lengths last parent isRoot ancestor depth root component children postOrderTo postOrder rank lastRank least greatest count passing indexOf flatMap outcome equal comesFirst between numbersOf handovers isChain leads joins firstEntry lastEntry
+unfolding table overlaps offsets lengths last parent lastRank Forest.isRoot Forest.ancestor Forest.depth Forest.root Forest.component Forest.children Forest.postOrderTo Forest.postOrder Forest.rank least greatest count passing indexOf flatMap outcome equal comesFirst between numbersOf handovers isChain leads joins firstEntry lastEntry
 definitions = tt
 
 -- A line of the paper's listing after its position: parent, component, depth, rank, rank of the last.
@@ -79,6 +79,17 @@ pub plan-12-answers-reversed : answers-reversed ≡ answers
 unfolding definitions answer answers answers-reversed
 plan-12-answers-reversed = refl
 
+-- Windows 1 and 2 overlap: the rank of window 2 is that of the last of window 1.
+pub plan-12-overlap : answer 1 2 ≡ apart 1
+unfolding definitions answer
+plan-12-overlap = refl
+
+-- Where each window's list begins in its root's, and how long it is.
+pub plan-12-starts : table (Forest.start 7 (parent overlaps)) 7 ∷ table (Forest.size 7 (parent overlaps)) 7 ∷ []
+    ≡ (0 ∷ 0 ∷ 1 ∷ 4 ∷ 1 ∷ 1 ∷ 0 ∷ []) ∷ (6 ∷ 1 ∷ 3 ∷ 1 ∷ 2 ∷ 1 ∷ 1 ∷ []) ∷ []
+unfolding definitions Forest.size Forest.earlierSiblings Forest.startTo Forest.start total
+plan-12-starts = refl
+
 -- The paper's chains join their windows with as many handovers as the answers say.
 pub plan-12-chains : joins 7 overlaps 0 5 (5 ∷ 4 ∷ 2 ∷ 0 ∷ [])
     && (joins 7 overlaps 3 5 (5 ∷ 4 ∷ 2 ∷ 3 ∷ [])
@@ -93,9 +104,10 @@ pub plan-12-handovers : handovers (5 ∷ 4 ∷ 2 ∷ 0 ∷ []) ∷ handovers (5 
 unfolding definitions
 plan-12-handovers = refl
 
--- The chains that are written are the paper's; between windows of two components nothing is written.
-pub plan-12-written : chainOf 7 overlaps 0 5 ∷ chainOf 7 overlaps 3 5 ∷ chainOf 7 overlaps 3 1 ∷ chainOf 7 overlaps 6 6 ∷ chainOf 7 overlaps 5 6 ∷ []
-    ≡ (5 ∷ 4 ∷ 2 ∷ 0 ∷ []) ∷ (5 ∷ 4 ∷ 2 ∷ 3 ∷ []) ∷ (3 ∷ 0 ∷ 1 ∷ []) ∷ (6 ∷ []) ∷ [] ∷ []
+-- The chains that are written are the paper's; between windows of two components nothing is written, and between a window and its
+-- last the two alone.
+pub plan-12-written : chainOf 7 overlaps 0 5 ∷ chainOf 7 overlaps 3 5 ∷ chainOf 7 overlaps 3 1 ∷ chainOf 7 overlaps 6 6 ∷ chainOf 7 overlaps 5 6 ∷ chainOf 7 overlaps 0 3 ∷ []
+    ≡ (5 ∷ 4 ∷ 2 ∷ 0 ∷ []) ∷ (5 ∷ 4 ∷ 2 ∷ 3 ∷ []) ∷ (3 ∷ 0 ∷ 1 ∷ []) ∷ (6 ∷ []) ∷ [] ∷ (3 ∷ 0 ∷ []) ∷ []
 unfolding definitions climb walk chainOf
 plan-12-written = refl
 

@@ -13,10 +13,11 @@ use Rattle.interval_graph.specs.Order.{IntervalOrder}
 use Rattle.interval_graph.specs.Chain.{LeastHandovers}
 use Rattle.interval_graph.specs.Tree.{depth, root, component}
 use Rattle.interval_graph.specs.Reach.{lastInComponent, reach}
-use Rattle.interval_graph.proofs.Depth.{depth-monotone}
+use Rattle.interval_graph.proofs.Monotone.{depth-monotone}
 use Rattle.interval_graph.proofs.Component.{component-root}
 use Rattle.interval_graph.proofs.Climb.{climb-le-depth}
 use Rattle.interval_graph.proofs.Bounds.{least-le}
+use Rattle.interval_graph.proofs.Parent.{tree}
 
 module _ (n : ℕ) (overlaps : ℕ → ℕ → Bool) where
   -- The last window of v's component is a window.
@@ -44,12 +45,12 @@ module _ {n : ℕ} {overlaps : ℕ → ℕ → Bool} (ok : IntervalOrder n overl
   unfolding reach
   depth-lt-reach v w h g e =
       let z = lastInComponent n overlaps v in
-      omega (arith, depth-monotone ok w z (lastInComponent-greatest n overlaps v w g e) (lastInComponent-window n overlaps v h) (component-root overlaps w z (e ∙ sym (lastInComponent-component n overlaps v))))
+      omega (arith, depth-monotone ok w z (lastInComponent-greatest n overlaps v w g e) (lastInComponent-window n overlaps v h) (component-root (tree overlaps) w z (e ∙ sym (lastInComponent-component n overlaps v))))
 
   -- No two windows of v's component are more handovers apart than its reach.
   pub reach-bound : (v a b k : ℕ) → v < n → a < n → b < n → component overlaps a ≡ component overlaps v → component overlaps b ≡ component overlaps v → LeastHandovers n overlaps a b k → k ≤ reach n overlaps v
   reach-bound v a b k h g l p q c =
-      let e : root overlaps a ≡ root overlaps b = component-root overlaps a b (p ∙ sym q) in
+      let e : root overlaps a ≡ root overlaps b = component-root (tree overlaps) a b (p ∙ sym q) in
       least-le ok a b k (reach n overlaps v) g l c
       (λ s. omega (arith, climb-le-depth ok a b e, depth-lt-reach v b h l q))
       (λ s. omega (arith, climb-le-depth ok b a (sym e), depth-lt-reach v a h g p))

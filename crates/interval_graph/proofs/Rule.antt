@@ -12,19 +12,20 @@ use borrow.Author.Tests.{ltb-true, ltb-false, leb-true, leb-false, eqb-true, lt-
 use Rattle.sequences.proofs.Tests.{cond-cases, lt-or-ge, equal-or-not, truth, and-left, and-right, and-intro, or-false-right, or-left, or-right}
 use Rattle.interval_graph.specs.Order.{IntervalOrder}
 use Rattle.interval_graph.specs.Chain.{handovers, Joined, LeastHandovers}
-use Rattle.interval_graph.specs.Tree.{last, ancestor, depth, root, component}
+use Rattle.interval_graph.specs.Tree.{last, ancestor, depth, root, component, rank, lastRank}
 use Rattle.interval_graph.specs.Walk.{climb, walk, chainOf}
-use Rattle.interval_graph.specs.PostOrder.{rank, lastRank}
 use Rattle.interval_graph.specs.Numbers.{Numbers, numbersOf, apart, no-chain, equal, comesFirst, between, outcome}
 use Rattle.interval_graph.proofs.Ancestor.{ancestor-zero}
-use Rattle.interval_graph.proofs.Depth.{depth-monotone}
+use Rattle.interval_graph.proofs.Monotone.{depth-monotone}
 use Rattle.interval_graph.proofs.Component.{root-component, component-root}
 use Rattle.interval_graph.proofs.Chains.{handovers-alone, least-handovers-joined}
 use Rattle.interval_graph.proofs.Climb.{climb-le-position}
 use Rattle.interval_graph.proofs.Walk.{walk-handovers}
 use Rattle.interval_graph.proofs.ShortestChain.{chain-same, chain-walk, chain-symmetric, joined-root, root-joined, chain-least, least-is-chain}
-use Rattle.interval_graph.proofs.Rank.{rank-injective, rank-lt-iff}
+use Rattle.interval_graph.proofs.Before.{rank-lt-iff}
+use Rattle.interval_graph.proofs.Rank.{rank-injective}
 use Rattle.interval_graph.proofs.Level.{Pair, climb-at-level, climb-past-level, climb-below-level, climb-to-level, ranks-at-level, ranks-below-level}
+use Rattle.interval_graph.proofs.Parent.{tree}
 
 -- Equal numbers agree in the component and in the rank.
 equal-component : (x y : Numbers) → equal x y ≡ true → x .component ≡ y .component
@@ -55,7 +56,7 @@ equal-self x = rw (eqb-self (x .plan), eqb-self (x .component), eqb-self (x .dep
 module _ {n : ℕ} {overlaps : ℕ → ℕ → Bool} (ok : IntervalOrder n overlaps) where
   -- The count for u before v in one component, v deeper by D, where the ancestor of v on u's level is not behind u.
   between-second : (u v D : ℕ) → Pair n overlaps u v D → ancestor overlaps D v ≤ u → cond (leb (rank n overlaps v) (rank n overlaps (last n overlaps u)) && ltb (rank n overlaps (last n overlaps u)) (rank n overlaps u)) D (D + 1) ≡ suc (climb n overlaps u v)
-  between-second u v zero p h = absurd (omega (arith, ancestor-zero overlaps v, p .order))
+  between-second u v zero p h = absurd (omega (arith, ancestor-zero (tree overlaps) v, p .order))
   between-second u v (suc D) p h =
       let x = ancestor overlaps D v in
       let z = last n overlaps u in
@@ -98,7 +99,7 @@ module _ {n : ℕ} {overlaps : ℕ → ℕ → Bool} (ok : IntervalOrder n overl
       (λ l. let d : depth overlaps u ≡ depth overlaps v = omega (arith, depth-monotone ok u v (omega arith) g e) in
       or-right s (a && b)
       (and-intro a b (eq-eqb (depth overlaps u) (depth overlaps v) d)
-      (lt-ltb (rank n overlaps u) (rank n overlaps v) (rank-lt-iff ok u v 0 (omega arith) g e (omega arith) .1 (omega (arith, ancestor-zero overlaps v))))))
+      (lt-ltb (rank n overlaps u) (rank n overlaps v) (rank-lt-iff ok u v 0 (omega arith) g e (omega arith) .1 (omega (arith, ancestor-zero (tree overlaps) v))))))
       (lt-or-ge (depth overlaps u) (depth overlaps v))
 
   -- The later window does not come first.
@@ -113,11 +114,11 @@ module _ {n : ℕ} {overlaps : ℕ → ℕ → Bool} (ok : IntervalOrder n overl
     where
       refuted : depth overlaps v ≡ depth overlaps u → rank n overlaps v < rank n overlaps u → ⊥
       refuted d l =
-          omega (arith, rank-lt-iff ok v u 0 g (omega arith) (sym e) (omega arith) .0 l, ancestor-zero overlaps u)
+          omega (arith, rank-lt-iff ok v u 0 g (omega arith) (sym e) (omega arith) .0 l, ancestor-zero (tree overlaps) u)
 
   -- Two windows with equal component and equal rank are one window.
   pub same-window : (a b : ℕ) → a < n → b < n → component overlaps a ≡ component overlaps b → rank n overlaps a ≡ rank n overlaps b → a ≡ b
-  same-window a b g l e s = rank-injective ok a b g l (component-root overlaps a b e) s
+  same-window a b g l e s = rank-injective n (tree overlaps) a b g l (component-root (tree overlaps) a b e) s
 
   -- So two windows with equal numbers are one window.
   pub equal-window : (a b p q : ℕ) → a < n → b < n → equal (numbersOf n overlaps p a) (numbersOf n overlaps q b) ≡ true → a ≡ b
@@ -145,7 +146,7 @@ module _ {n : ℕ} {overlaps : ℕ → ℕ → Bool} (ok : IntervalOrder n overl
   unfolding outcome numbersOf
   outcome-two a b p g l d e =
       let t : equal (numbersOf n overlaps p a) (numbersOf n overlaps p b) ≡ false = not-equal a b p g l d in
-      let s : eqb (component overlaps a) (component overlaps b) ≡ true = eq-eqb _ _ (root-component overlaps a b e) in
+      let s : eqb (component overlaps a) (component overlaps b) ≡ true = eq-eqb _ _ (root-component (tree overlaps) a b e) in
       rw (t, s)
 
   -- For windows of one component the outcome is the count of the chain between them.
@@ -168,7 +169,7 @@ module _ {n : ℕ} {overlaps : ℕ → ℕ → Bool} (ok : IntervalOrder n overl
   unfolding outcome numbersOf
   outcome-none a b p g l d =
       let t : equal (numbersOf n overlaps p a) (numbersOf n overlaps p b) ≡ false = not-equal a b p g l (λ s. d (ap (root overlaps) s)) in
-      let s : eqb (component overlaps a) (component overlaps b) ≡ false = ne-eqb _ _ (λ e. d (component-root overlaps a b e)) in
+      let s : eqb (component overlaps a) (component overlaps b) ≡ false = ne-eqb _ _ (λ e. d (component-root (tree overlaps) a b e)) in
       rw (t, s)
 
   -- The outcome is the same in either order of naming.

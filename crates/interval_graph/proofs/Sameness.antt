@@ -1,30 +1,25 @@
 -- Sameness: two overlap tests in interval order are equal on all pairs of windows exactly if they give each window the
--- same component, depth, rank and rank of the last.
+-- same component, depth, rank and rank of the last; and exactly if they give each the same last.
 -- Vocabulary: SameOverlaps, SameNumbers.
 -- Assumes nothing.
-use Prim.Native.Nat.{ℕ, zero, suc, _≤_, _<_}
+use Prim.Native.Nat.{ℕ, _≤_, _<_}
 use mathlib.Core.Bool.{Bool, true, _&&_}
 use mathlib.Core.Path.{_≡_, refl, sym, ap, _∙_}
 use mathlib.Core.Logic.{⊎-elim, _↔_}
-use mathlib.Core.List.{List, [], _∷_, _++_, flatMap}
+use mathlib.Core.List.{List, [], _∷_}
 use native.Mathlib.Omega.{arith}
-use lib.Dec.{ltb, eqb}
-use Rattle.sequences.specs.Search.{count}
-use Rattle.sequences.specs.Lists.{indexOf}
-use Rattle.sequences.proofs.Tests.{iff-equal}
-use Rattle.sequences.proofs.Search.{least-cong, greatest-cong, count-cong}
-use Rattle.sequences.proofs.Passing.{passing-cong}
-use Rattle.sequences.proofs.FlatMap.{flatMap-cong}
+use lib.Dec.{ltb}
+use Rattle.sequences.proofs.Tests.{iff-equal, lt-or-ge}
+use Rattle.sequences.proofs.Search.{least-cong, greatest-cong}
 use Rattle.interval_graph.specs.Order.{IntervalOrder}
 use Rattle.interval_graph.specs.Chain.{firstEntry, lastEntry, handovers, leads, LeastHandovers}
-use Rattle.interval_graph.specs.Tree.{last, parent, isRoot, ancestor, depth, root, component}
-use Rattle.interval_graph.specs.PostOrder.{children, postOrderTo, postOrder, rank, lastRank}
+use Rattle.interval_graph.specs.Tree.{last, parent, depth, component, rank, lastRank}
 use Rattle.interval_graph.specs.Numbers.{numbersOf, outcome}
-use Rattle.interval_graph.proofs.Last.{overlap-distinct, last-below}
-use Rattle.interval_graph.proofs.Ancestor.{ancestor-below}
-use Rattle.interval_graph.proofs.Depth.{root-le}
+use Rattle.interval_graph.proofs.Last.{overlap-distinct, last-below, last-overlap, overlap-last}
 use Rattle.interval_graph.proofs.Chains.{chain-not-empty, chain-overlap, chain-alone, chain-cons, leads-chain, leads-first, leads-last, leads-intro, leads-joins, joins-cases}
 use Rattle.interval_graph.proofs.Rule.{outcome-apart}
+use Rattle.interval_graph.proofs.Agreement.{component-agrees, depth-agrees, rank-agrees}
+use Rattle.interval_graph.proofs.Parent.{tree}
 
 -- The same pairs of windows overlap.
 abbrev pub SameOverlaps : ℕ → (ℕ → ℕ → Bool) → (ℕ → ℕ → Bool) → Type 0
@@ -37,7 +32,7 @@ pub record SameNumbers (n : ℕ) (first second : ℕ → ℕ → Bool) : Type 0 
   pub ranks : (v : ℕ) → v < n → rank n first v ≡ rank n second v
   pub lasts : (v : ℕ) → v < n → lastRank n first v ≡ lastRank n second v
 
--- Tree, post-order and numbers depend on the test between windows only.
+-- Last and parent depend on the test between windows only.
 module _ {n : ℕ} {first second : ℕ → ℕ → Bool} (same : SameOverlaps n first second) where
   -- The last depends on the test between windows only.
   pub last-same : (u : ℕ) → u < n → last n first u ≡ last n second u
@@ -50,53 +45,22 @@ module _ {n : ℕ} {first second : ℕ → ℕ → Bool} (same : SameOverlaps n 
   unfolding parent
   parent-same v h = least-cong (λ u. first u v) (λ u. second u v) v (λ k g. same k v (omega arith) h)
 
-  root-test-same : (v : ℕ) → v < n → isRoot first v ≡ isRoot second v
-  unfolding isRoot
-  root-test-same v h = ap (λ (p : ℕ). eqb p v) (parent-same v h)
+-- An overlap pattern is its lasts.
+module _ {n : ℕ} {first second : ℕ → ℕ → Bool} (ok : IntervalOrder n first) (ok′ : IntervalOrder n second) where
+  lasts-later : ((k : ℕ) → k < n → last n first k ≡ last n second k) → (u v : ℕ) → u < v → v < n → first u v ≡ second u v
+  lasts-later same u v h g =
+      let e : last n first u ≡ last n second u = same u (omega arith) in
+      iff-equal (first u v) (second u v)
+      (λ t. last-overlap ok′ u v h (omega (arith, overlap-last ok u v h g t)))
+      (λ t. last-overlap ok u v h (omega (arith, overlap-last ok′ u v h g t)))
 
-  ancestor-same : (i v : ℕ) → v < n → ancestor first i v ≡ ancestor second i v
-  unfolding ancestor
-  ancestor-same zero v h = refl
-  ancestor-same (suc i) v h =
-      ap (parent first) (ancestor-same i v h) ∙ parent-same (ancestor second i v) (ancestor-below second i v h)
-
-  -- The depth depends on the test between windows only.
-  pub depth-same : (v : ℕ) → v < n → depth first v ≡ depth second v
-  unfolding depth
-  depth-same v h =
-      least-cong (λ i. isRoot first (ancestor first i v)) (λ i. isRoot second (ancestor second i v)) v
-      (λ i g. ap (isRoot first) (ancestor-same i v h) ∙ root-test-same (ancestor second i v) (ancestor-below second i v h))
-
-  root-same : (v : ℕ) → v < n → root first v ≡ root second v
-  unfolding root
-  root-same v h = ap (λ (d : ℕ). ancestor first d v) (depth-same v h) ∙ ancestor-same (depth second v) v h
-
-  -- The component depends on the test between windows only.
-  pub component-same : (v : ℕ) → v < n → component first v ≡ component second v
-  unfolding component
-  component-same v h =
-      ap (count (isRoot first)) (root-same v h)
-      ∙ count-cong (isRoot first) (isRoot second) (root second v) (λ k g. root-test-same k (omega (arith, root-le second v)))
-
-  children-same : (v : ℕ) → children n first v ≡ children n second v
-  unfolding children
-  children-same v =
-      passing-cong (λ c. ltb v c && eqb (parent first c) v) (λ c. ltb v c && eqb (parent second c) v) 0 n
-      (λ k l r. ap (λ (p : ℕ). ltb v k && eqb p v) (parent-same k (omega arith)))
-
-  postOrder-same : (levels v : ℕ) → postOrderTo n first levels v ≡ postOrderTo n second levels v
-  unfolding postOrderTo
-  postOrder-same zero v = refl
-  postOrder-same (suc levels) v =
-      ap (λ (c : List ℕ). flatMap (postOrderTo n first levels) c ++ (v ∷ [])) (children-same v)
-      ∙ ap (λ (l : List ℕ). l ++ (v ∷ []))
-      (flatMap-cong (postOrderTo n first levels) (postOrderTo n second levels) (children n second v) (λ c m. postOrder-same levels c))
-
-  -- The rank depends on the test between windows only.
-  pub rank-same : (v : ℕ) → v < n → rank n first v ≡ rank n second v
-  unfolding rank postOrder
-  rank-same v h =
-      ap (λ (r : ℕ). indexOf v (postOrderTo n first n r)) (root-same v h) ∙ ap (indexOf v) (postOrder-same n (root second v))
+  -- Equal lasts are the same overlaps.
+  pub lasts-overlaps : ((k : ℕ) → k < n → last n first k ≡ last n second k) → SameOverlaps n first second
+  lasts-overlaps same u v h g =
+      ⊎-elim (λ l. lasts-later same u v l g)
+      (λ l. ⊎-elim (λ m. ok .symmetric u v ∙ (lasts-later same v u m h ∙ ok′ .symmetric v u))
+      (λ m. let e : u ≡ v = omega arith in rw e (ok .irreflexive v ∙ sym (ok′ .irreflexive v))) (lt-or-ge v u))
+      (lt-or-ge u v)
 
 -- An overlap is a least number 1.
 module _ {n : ℕ} {overlaps : ℕ → ℕ → Bool} (ok : IntervalOrder n overlaps) where
@@ -139,10 +103,11 @@ module _ {n : ℕ} {first second : ℕ → ℕ → Bool} (ok : IntervalOrder n f
   unfolding lastRank
   overlaps-numbers same =
       record {
-        components = component-same same;
-        depths = depth-same same;
-        ranks = rank-same same;
-        lasts = λ v h. ap (rank n first) (last-same same v h) ∙ rank-same same (last n second v) (last-below ok′ v h);
+        components = component-agrees (tree second) (parent-same same);
+        depths = depth-agrees (tree second) (parent-same same);
+        ranks = rank-agrees (tree second) (parent-same same);
+        lasts = λ v h.
+            ap (rank n first) (last-same same v h) ∙ rank-agrees (tree second) (parent-same same) (last n second v) (last-below ok′ v h);
       }
 
   numbers-equal : SameNumbers n first second → (p v : ℕ) → v < n → numbersOf n first p v ≡ numbersOf n second p v

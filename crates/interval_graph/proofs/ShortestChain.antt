@@ -19,6 +19,7 @@ use Rattle.interval_graph.proofs.Component.{root-component, component-r
 use Rattle.interval_graph.proofs.Chains.{chain-not-empty, leads-chain, leads-first, leads-last, joins-cases, leads-joins, joins-swap, joins-not-empty, later-leads, handovers-later, shortest-least, least-handovers-unique, least-handovers-joined}
 use Rattle.interval_graph.proofs.Climb.{climb-le-position, chain-root}
 use Rattle.interval_graph.proofs.Walk.{Best, walk-leads, walk-best, alone-best}
+use Rattle.interval_graph.proofs.Parent.{tree}
 
 -- the equations a reader expects, of any overlap test
 
@@ -127,7 +128,7 @@ module _ {n : ℕ} {overlaps : ℕ → ℕ → Bool} (ok : IntervalOrder n overl
   -- Some chain joins two windows exactly if they have one component.
   pub joined-iff-component : (a b : ℕ) → a < n → b < n → Joined n overlaps a b ↔ (component overlaps a ≡ component overlaps b)
   joined-iff-component a b g l =
-      (λ j. root-component overlaps a b (joined-root a b j), λ e. root-joined a b g l (component-root overlaps a b e))
+      (λ j. root-component (tree overlaps) a b (joined-root a b j), λ e. root-joined a b g l (component-root (tree overlaps) a b e))
 
   -- The chain between two windows that some chain joins is a shortest, with the earliest window at each step.
   pub chain-earliest-shortest : (a b : ℕ) → a < n → b < n → Joined n overlaps a b → EarliestShortest n overlaps a b (chainOf n overlaps a b)

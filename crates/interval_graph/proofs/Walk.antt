@@ -17,7 +17,7 @@ use Rattle.interval_graph.specs.Chain.{firstEntry, lastEntry, handovers,
 use Rattle.interval_graph.specs.Tree.{last, parent, ancestor, root}
 use Rattle.interval_graph.specs.Walk.{climb, walk}
 use Rattle.interval_graph.proofs.Last.{last-ge, last-overlap}
-use Rattle.interval_graph.proofs.Parent.{parent-le, parent-last, parent-overlaps}
+use Rattle.interval_graph.proofs.Parent.{parent-le, parent-last, parent-overlaps, tree}
 use Rattle.interval_graph.proofs.Ancestor.{ancestor-zero, ancestor-suc, ancestor-below}
 use Rattle.interval_graph.proofs.Depth.{fixed-root, root-unique, root-le-ancestor}
 use Rattle.interval_graph.proofs.Chains.{first-getD, last-getD, last-snoc, last-table, handovers-alone, chain-alone, chain-snoc, chain-table, chain-not-empty, leads-chain, leads-first, leads-last, leads-intro}
@@ -50,7 +50,7 @@ module _ (n : ℕ) (overlaps : ℕ → ℕ → Bool) where
 
   -- It begins at v.
   pub walk-first : (u v : ℕ) → firstEntry (walk n overlaps u v) ≡ v
-  walk-first u v = first-getD (walk n overlaps u v) ∙ walk-entry u v 0 (omega arith) ∙ ancestor-zero overlaps v
+  walk-first u v = first-getD (walk n overlaps u v) ∙ walk-entry u v 0 (omega arith) ∙ ancestor-zero (tree overlaps) v
 
   -- It ends at u.
   pub walk-last : (u v : ℕ) → lastEntry (walk n overlaps u v) ≡ u
@@ -64,24 +64,24 @@ module _ {n : ℕ} {overlaps : ℕ → ℕ → Bool} (ok : IntervalOrder n overl
       let x = ancestor overlaps i v in
       let behind : last n overlaps u < x = climb-before n overlaps u v i h in
       ⊎-elim
-      (λ g. ap (overlaps x) (ancestor-suc overlaps i v) ∙ (ok .symmetric x (parent overlaps x) ∙ parent-overlaps overlaps x g))
+      (λ g. ap (overlaps x) (ancestor-suc (tree overlaps) i v) ∙ (ok .symmetric x (parent overlaps x) ∙ parent-overlaps overlaps x g))
       (λ g. let e : parent overlaps x ≡ x = omega (arith, parent-le overlaps x) in
-      let s : x ≡ root overlaps v = root-unique overlaps v i (fixed-root overlaps x e) in
-      absurd (omega (arith, climb-reaches n overlaps u v r, root-le-ancestor overlaps v (climb n overlaps u v))))
+      let s : x ≡ root overlaps v = root-unique (tree overlaps) v i (fixed-root (tree overlaps) x e) in
+      absurd (omega (arith, climb-reaches n overlaps u v r, root-le-ancestor (tree overlaps) v (climb n overlaps u v))))
       (lt-or-ge (parent overlaps x) x)
 
   -- The position where the way up ends overlaps u.
   walk-end : (u v j : ℕ) → u < v → v < n → climb n overlaps u v ≡ j → j ≤ v → overlaps (ancestor overlaps j v) u ≡ true
   walk-end u v zero h g e r =
-      ap (λ z. overlaps z u) (ancestor-zero overlaps v)
-      ∙ (ok .symmetric v u ∙ last-overlap ok u v h (omega (arith, rw e at (climb-reaches n overlaps u v (omega arith)), ancestor-zero overlaps v)))
+      ap (λ z. overlaps z u) (ancestor-zero (tree overlaps) v)
+      ∙ (ok .symmetric v u ∙ last-overlap ok u v h (omega (arith, rw e at (climb-reaches n overlaps u v (omega arith)), ancestor-zero (tree overlaps) v)))
   walk-end u v (suc j) h g e r =
       let x = ancestor overlaps j v in
       let y = ancestor overlaps (suc j) v in
-      let up : y ≡ parent overlaps x = ancestor-suc overlaps j v in
+      let up : y ≡ parent overlaps x = ancestor-suc (tree overlaps) j v in
       let reached : y ≤ last n overlaps u = rw e at (climb-reaches n overlaps u v (omega arith)) in
       let behind : last n overlaps u < x = climb-before n overlaps u v j (omega arith) in
-      let covers : x ≤ last n overlaps y = rw up (parent-last ok x (ancestor-below overlaps j v g)) in
+      let covers : x ≤ last n overlaps y = rw up (parent-last ok x (ancestor-below (tree overlaps) j v g)) in
       ⊎-elim (λ l. ok .symmetric y u ∙ last-overlap ok u y l reached)
       (λ l. ⊎-elim (λ m. last-overlap ok y u m (omega (arith, last-ge ok u)))
       (λ m. let s : y ≡ u = omega arith in absurd (omega (arith, ap (last n overlaps) s))) (lt-or-ge y u))
@@ -95,7 +95,7 @@ module _ {n : ℕ} {overlaps : ℕ → ℕ → Bool} (ok : IntervalOrder n overl
       let k = climb n overlaps u v in
       leads-intro n overlaps v u (walk n overlaps u v)
       (chain-snoc n overlaps (table f (suc k)) u
-      (chain-table n overlaps f k (λ i b. ancestor-below overlaps i v g) (λ i b. walk-step u v i r b))
+      (chain-table n overlaps f k (λ i b. ancestor-below (tree overlaps) i v g) (λ i b. walk-step u v i r b))
       (ap (λ z. overlaps z u) (last-table f k) ∙ walk-end u v k h g refl r) (omega arith))
       (walk-first n overlaps u v) (walk-last n overlaps u v)
 

@@ -4,7 +4,6 @@ use Prim.Native.Nat.{ℕ, _+_, _-_}
 use mathlib.Core.Bool.{Bool, cond, _&&_, _||_}
 use lib.Dec.{ltb, leb, eqb}
 use Rattle.interval_graph.specs.Tree as Tree
-use Rattle.interval_graph.specs.PostOrder as PostOrder
 
 -- "Five numbers …: plan number, component, depth, rank, rank of the last."
 pub record Numbers : Type 0 where
@@ -21,8 +20,8 @@ numbersOf n overlaps plan v =
       plan = plan;
       component = Tree.component overlaps v;
       depth = Tree.depth overlaps v;
-      rank = PostOrder.rank n overlaps v;
-      last = PostOrder.lastRank n overlaps v;
+      rank = Tree.rank n overlaps v;
+      last = Tree.lastRank n overlaps v;
     }
 
 -- What the numbers of two windows say: "a number of handovers; no chain".

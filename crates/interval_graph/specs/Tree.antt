@@ -1,36 +1,38 @@
--- Paper 01, "Tree": last, parent, component, depth.
--- Vocabulary: last, parent, isRoot, ancestor, depth, root, component.
-use Prim.Native.Nat.{ℕ, zero, suc}
+-- Paper 01, "Tree": last, parent, and the forest of these parents.
+-- Vocabulary: last, parent, isRoot, ancestor, depth, root, component, rank, lastRank.
+use Prim.Native.Nat.{ℕ}
 use mathlib.Core.Bool.{Bool, _&&_}
-use lib.Dec.{ltb, eqb}
-use Rattle.sequences.specs.Search.{least, greatest, count}
+use lib.Dec.{ltb}
+use Rattle.sequences.specs.Search.{least, greatest}
+use Rattle.interval_graph.specs.Forest as Forest
 
 -- "The last of u is the greatest position that overlaps u, or u itself where no later window does."
 unfoldable pub last : ℕ → (ℕ → ℕ → Bool) → ℕ → ℕ
 last n overlaps u = greatest (λ w. ltb u w && overlaps u w) n u
 
-module _ (overlaps : ℕ → ℕ → Bool) where
-  -- "The parent of v is the smallest position before v that overlaps v. A window without one is a root, and the
-  -- parent table holds its own position."
-  unfoldable pub parent : ℕ → ℕ
-  parent v = least (λ u. overlaps u v) v
+-- "The parent of v is the smallest position before v that overlaps v. A window without one is a root, and the
+-- parent table holds its own position."
+unfoldable pub parent : (ℕ → ℕ → Bool) → ℕ → ℕ
+parent overlaps v = least (λ u. overlaps u v) v
 
-  unfoldable pub isRoot : ℕ → Bool
-  isRoot v = eqb (parent v) v
+-- The forest of these parents, under the names of `Forest`.
+abbrev pub isRoot : (ℕ → ℕ → Bool) → ℕ → Bool
+isRoot overlaps = Forest.isRoot (parent overlaps)
 
-  -- i steps up from v.
-  unfoldable pub ancestor : ℕ → ℕ → ℕ
-  ancestor zero v = v
-  ancestor (suc i) v = parent (ancestor i v)
+abbrev pub ancestor : (ℕ → ℕ → Bool) → ℕ → ℕ → ℕ
+ancestor overlaps = Forest.ancestor (parent overlaps)
 
-  -- "Depth is the number of steps to the root." (They are at most v, since each step lowers the position.)
-  unfoldable pub depth : ℕ → ℕ
-  depth v = least (λ i. isRoot (ancestor i v)) v
+abbrev pub depth : (ℕ → ℕ → Bool) → ℕ → ℕ
+depth overlaps = Forest.depth (parent overlaps)
 
-  unfoldable pub root : ℕ → ℕ
-  root v = ancestor (depth v) v
+abbrev pub root : (ℕ → ℕ → Bool) → ℕ → ℕ
+root overlaps = Forest.root (parent overlaps)
 
-  -- "A component is a root and all under it. Components are contiguous in position and numbered from 0 in that
-  -- order": the number of v's component is the number of roots before its own.
-  unfoldable pub component : ℕ → ℕ
-  component v = count isRoot (root v)
+abbrev pub component : (ℕ → ℕ → Bool) → ℕ → ℕ
+component overlaps = Forest.component (parent overlaps)
+
+abbrev pub rank : ℕ → (ℕ → ℕ → Bool) → ℕ → ℕ
+rank n overlaps = Forest.rank n (parent overlaps)
+
+unfoldable pub lastRank : ℕ → (ℕ → ℕ → Bool) → ℕ → ℕ
+lastRank n overlaps v = rank n overlaps (last n overlaps v)

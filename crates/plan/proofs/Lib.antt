@@ -4,10 +4,12 @@
 --   Written     the file of a list of windows
 --   Overlap     overlap by minutes, by bounds, and in interval order
 --   Calls       calls that validate a file and then ask more
+--   Counted     an accepted plan with so many windows
 --   Plan12      the paper's plan, by computation
 pub mod Validation
 pub mod Accepted
 pub mod Written
 pub mod Overlap
 pub mod Calls
+pub mod Counted
 pub mod Plan12

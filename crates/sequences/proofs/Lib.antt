@@ -1,6 +1,7 @@
 -- Laws, in the order in which they rest on one another.
 pub mod Tests
 pub mod Search
+pub mod Every
 pub mod Passing
 pub mod Lists
 pub mod FlatMap

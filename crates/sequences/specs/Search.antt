@@ -1,7 +1,7 @@
 -- Bounded searches over the natural numbers, by a test.
--- Vocabulary: least, greatest, count, passing.
+-- Vocabulary: least, greatest, count, passing, every.
 use Prim.Native.Nat.{ℕ, zero, suc}
-use mathlib.Core.Bool.{Bool, cond}
+use mathlib.Core.Bool.{Bool, true, cond, _&&_}
 use mathlib.Core.List.{List, [], _∷_}
 
 -- The least number below n that passes the test p, or n where none does.
@@ -24,3 +24,8 @@ count p (suc n) = let below = count p n in cond (p n) (suc below) below
 unfoldable pub passing : (ℕ → Bool) → ℕ → ℕ → List ℕ
 passing p a zero = []
 passing p a (suc k) = let above = passing p (suc a) k in cond (p a) (a ∷ above) above
+
+-- Every number below n passes the test p.
+unfoldable pub every : (ℕ → Bool) → ℕ → Bool
+every p zero = true
+every p (suc n) = every p n && p n

@@ -2,29 +2,28 @@
 -- Vocabulary: earlier-overlaps, offsets-do-not-fall, parent-found, Fingers, last-found.
 -- Assumes nothing.
 use Prim.Native.Nat.{ℕ, _+_, _≤_, _<_}
-use mathlib.Core.Bool.{Bool, true, false}
-use mathlib.Core.Path.{_≡_, refl, sym, ap, _∙_}
+use mathlib.Core.Bool.{true, false}
+use mathlib.Core.Path.{_≡_, sym, _∙_}
 use mathlib.Core.Logic.{⊎-elim}
 use mathlib.Core.List.{List}
 use native.Mathlib.Omega.{arith}
 use native.Mathlib.Nat.{le-antisymm}
 use lib.ListN.{length, getD, set}
 use lib.Dec.{ltb}
-use borrow.Author.Tests.{lt-ltb, le-ltb, ltb-true}
+use borrow.Author.Tests.{lt-ltb, le-ltb}
 use Rattle.sequences.proofs.Tests.{lt-or-ge, true-false-absurd}
 use Rattle.sequences.proofs.Search.{least-unique}
 use Rattle.sequences.proofs.Table.{Filling, filling-start, filling-turn}
-use Rattle.interval_graph.specs.Order.{IntervalOrder}
 use Rattle.interval_graph.specs.Tree.{last, parent}
 use Rattle.interval_graph.proofs.Last.{last-cases, last-ge, overlap-last}
-use Rattle.plan.specs.File.{windowCount, windowAt, endOf}
+use Rattle.plan.specs.File.{endOf}
 use Rattle.plan.specs.Overlap.{overlaps}
-use Rattle.plan.specs.Validation.{AcceptedPlan}
+use Rattle.plan.specs.AcceptedWindows.{AcceptedWindows}
 use Rattle.plan.proofs.Accepted.{accepted-sound, offsets-sorted}
-use Rattle.plan.proofs.Overlap.{overlaps-end, interval-order}
+use Rattle.plan.proofs.Overlap.{overlaps-end}
+use Rattle.plan.proofs.Counted.{windows-few, windows-order}
 use Rattle.tree.specs.Tables.{offsetAt, endAt, parentOf, lastOf}
 use Rattle.tree.specs.Passes.{Prepared, FirstPast, Sorted, LastBefore}
-use Rattle.tree.proofs.Reading.{windows-fit}
 
 -- No window before `finger` overlaps one from v on.
 abbrev Behind : List ℕ → ℕ → ℕ → ℕ → Type 0
@@ -37,11 +36,11 @@ pub record Fingers (file : List ℕ) (windows : ℕ) (parents₀ parents : List 
   pub behind : Behind file windows finger position
   pub filling : Filling (parentOf file) windows parents₀ parents position
 
-module _ (file : List ℕ) (windows : ℕ) (ok : AcceptedPlan file) (counted : windows ≡ windowCount file) where
+module _ {file : List ℕ} {windows : ℕ} (plan : AcceptedWindows file windows) where
   -- For u before v: they overlap exactly if the offset of v lies before the end of u.
   earlier-overlaps : (u v : ℕ) → u < v → v < windows → overlaps file u v ≡ ltb (offsetAt file v) (endAt file u)
   unfolding offsetAt endAt
-  earlier-overlaps u v h within = overlaps-end file ok u v h (omega (arith, counted))
+  earlier-overlaps u v h within = overlaps-end file (plan .accepted) u v h (omega (arith, plan .counted))
 
   ends-past : (u v : ℕ) → u < v → v < windows → offsetAt file v < endAt file u → overlaps file u v ≡ true
   ends-past u v h within g = earlier-overlaps u v h within ∙ lt-ltb _ _ g
@@ -51,7 +50,7 @@ module _ (file : List ℕ) (windows : ℕ) (ok : AcceptedPlan file) (counted : w
 
   offsets-do-not-fall : (i j : ℕ) → i ≤ j → j < windows → offsetAt file i ≤ offsetAt file j
   unfolding offsetAt
-  offsets-do-not-fall i j le within = offsets-sorted file (accepted-sound file ok) i j le (omega (arith, counted))
+  offsets-do-not-fall i j le within = offsets-sorted file (accepted-sound file (plan .accepted)) i j le (omega (arith, plan .counted))
 
   module _ (finger v r : ℕ) (within : v < windows) (behind : Behind file windows finger v) (found : FirstPast (endAt file) (offsetAt file v) finger v r) where
     -- What the search passes over overlaps nothing from v on.
@@ -79,26 +78,23 @@ module _ (file : List ℕ) (windows : ℕ) (ok : AcceptedPlan file) (counted : w
 
   ends-early : (u : ℕ) → u < windows → endAt file u ≤ 4294967295
   unfolding endAt
-  ends-early u within = omega (arith, accepted-sound file ok .early u (omega (arith, counted)))
+  ends-early u within = omega (arith, accepted-sound file (plan .accepted) .early u (omega (arith, plan .counted)))
 
   -- A window begins before it ends.
   own-offset : (u : ℕ) → u < windows → offsetAt file u < endAt file u
   unfolding offsetAt endAt endOf
-  own-offset u within = omega (arith, accepted-sound file ok .long u (omega (arith, counted)))
+  own-offset u within = omega (arith, accepted-sound file (plan .accepted) .long u (omega (arith, plan .counted)))
 
 module _ {file : List ℕ} {windows : ℕ} {offsets : List ℕ} (p : Prepared file windows offsets) where
   held : (k : ℕ) → k < windows → getD offsets k 0 ≡ offsetAt file k
   held = p .offsets-held .at
 
-  prepared-few : windows ≤ 2048
-  prepared-few = windows-fit file windows (p .accepted) (p .counted)
-
   pub prepared-do-not-fall : Sorted offsets 2048
   prepared-do-not-fall i j le within =
       ⊎-elim
-      (λ h. omega (arith, held i (omega arith), held j h, offsets-do-not-fall file windows (p .accepted) (p .counted) i j le h))
+      (λ h. omega (arith, held i (omega arith), held j h, offsets-do-not-fall (p .plan) i j le h))
       (λ h. ⊎-elim
-      (λ g. omega (arith, held i g, p .rest j h within, own-offset file windows (p .accepted) (p .counted) i g, ends-early file windows (p .accepted) (p .counted) i g))
+      (λ g. omega (arith, held i g, p .rest j h within, own-offset (p .plan) i g, ends-early (p .plan) i g))
       (λ g. omega (arith, p .rest i g (omega arith), p .rest j h within))
       (lt-or-ge i windows))
       (lt-or-ge j windows)
@@ -108,24 +104,21 @@ module _ {file : List ℕ} {windows : ℕ} {offsets : List ℕ} (p : Prepared fi
     found-late : u ≤ r
     found-late =
         ⊎-elim
-        (λ h. absurd (omega (arith, held u within, own-offset file windows (p .accepted) (p .counted) u within, found .past u h (omega (arith, prepared-few)))))
+        (λ h. absurd (omega (arith, held u within, own-offset (p .plan) u within, found .past u h (omega (arith, windows-few (p .plan))))))
         (λ h. h)
         (lt-or-ge r u)
 
     found-window : r < windows
     found-window =
         ⊎-elim (λ h. h)
-        (λ h. absurd (omega (arith, found .before (omega arith), p .rest r h (found .high), ends-early file windows (p .accepted) (p .counted) u within)))
+        (λ h. absurd (omega (arith, found .before (omega arith), p .rest r h (found .high), ends-early (p .plan) u within)))
         (lt-or-ge r windows)
 
     -- What it finds is the last.
     pub last-found : r ≡ lastOf file u
     unfolding lastOf
-    last-found = rw (← p .counted) (sym (le-antisymm upper lower))
+    last-found = rw (← p .plan .counted) (sym (le-antisymm upper lower))
       where
-        order : IntervalOrder windows (overlaps file)
-        order = rw (p .counted) (interval-order file (p .accepted))
-
         farthest : ℕ
         farthest = last windows (overlaps file) u
 
@@ -133,7 +126,7 @@ module _ {file : List ℕ} {windows : ℕ} {offsets : List ℕ} (p : Prepared fi
         upper =
             ⊎-elim
             (λ c. ⊎-elim
-            (λ h. absurd (true-false-absurd _ (c .2) (ends-before file windows (p .accepted) (p .counted) u farthest (c .0) (c .1) (omega (arith, held farthest (c .1), found .past farthest h (omega (arith, c .1, prepared-few)))))))
+            (λ h. absurd (true-false-absurd _ (c .2) (ends-before (p .plan) u farthest (c .0) (c .1) (omega (arith, held farthest (c .1), found .past farthest h (omega (arith, c .1, windows-few (p .plan))))))))
             (λ h. h)
             (lt-or-ge r farthest))
             (λ e. omega (arith, e, found-late))
@@ -142,8 +135,8 @@ module _ {file : List ℕ} {windows : ℕ} {offsets : List ℕ} (p : Prepared fi
         lower : r ≤ farthest
         lower =
             ⊎-elim
-            (λ h. overlap-last order u r h found-window (ends-past file windows (p .accepted) (p .counted) u r h found-window (omega (arith, held r found-window, found .before (omega arith)))))
-            (λ h. omega (arith, last-ge order u))
+            (λ h. overlap-last (windows-order (p .plan)) u r h found-window (ends-past (p .plan) u r h found-window (omega (arith, held r found-window, found .before (omega arith)))))
+            (λ h. omega (arith, last-ge (windows-order (p .plan)) u))
             (lt-or-ge u r)
 
 pub fingers-start : (file : List ℕ) (windows : ℕ) (parents₀ : List ℕ) → Fingers file windows parents₀ parents₀ 0 0

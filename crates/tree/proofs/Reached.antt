@@ -1,94 +1,109 @@
--- The search for the last window of a component, and the reach that it gives.
--- Vocabulary: InComponent, in-component-start, in-component-turn, last-stops, last-ends, reach-depth.
+-- Reach: the search for the end of a run of equal entries, which in a table of components is the last window of one; the reach that
+-- it gives; and the answer after each test of the call.
+-- Vocabulary: Running, running-start, running-turn, running-stops, running-ends, reach-found.
 -- Assumes nothing.
 use Prim.Native.Nat.{ℕ, suc, _+_, _≤_, _<_}
-use mathlib.Core.Bool.{Bool}
 use mathlib.Core.Path.{_≡_, refl, sym, ap, _∙_}
-use mathlib.Core.Logic.{⊎-elim, _≢_}
+use mathlib.Core.Logic.{⊎-elim}
 use mathlib.Core.List.{List}
 use native.Mathlib.Omega.{arith}
 use native.Mathlib.Nat.{le-antisymm}
 use native.Mathlib.Numerals.{add-one}
 use lib.ListN.{getD}
+use lib.Dec.{ltb}
+use borrow.Author.Tests.{lt-ltb, le-ltb}
 use Rattle.sequences.specs.Table.{Holds}
 use Rattle.sequences.proofs.Tests.{lt-or-ge}
-use Rattle.interval_graph.specs.Order.{IntervalOrder}
 use Rattle.interval_graph.specs.Tree.{component, depth}
 use Rattle.interval_graph.specs.Reach.{lastInComponent, reach}
-use Rattle.interval_graph.proofs.Bounds.{depth-lt}
-use Rattle.interval_graph.proofs.Component.{component-contiguous}
+use Rattle.interval_graph.proofs.Parent.{tree}
+use Rattle.interval_graph.proofs.Depth.{depth-le}
+use Rattle.interval_graph.proofs.Monotone.{component-contiguous}
 use Rattle.interval_graph.proofs.Reach.{lastInComponent-window, lastInComponent-component, lastInComponent-greatest}
-use Rattle.plan.specs.File.{windowCount}
+use Rattle.wire.specs.declared.Refusal.{Refusal}
+use Rattle.wire.specs.Question.{question}
+use Rattle.plan.specs.declared.questions.Validation.{Validation}
 use Rattle.plan.specs.Overlap.{overlaps}
-use Rattle.plan.specs.Validation.{AcceptedPlan}
-use Rattle.plan.proofs.Accepted.{accepted-sound}
-use Rattle.plan.proofs.Overlap.{interval-order}
+use Rattle.plan.specs.Validation.{validateOf}
+use Rattle.plan.specs.AcceptedWindows.{AcceptedWindows}
+use Rattle.plan.specs.declared.questions.Validation.the-variants as Validation
+use Rattle.plan.proofs.Calls.{plan-refused, one-more-no, one-more-yes}
+use Rattle.plan.proofs.Counted.{windows-few, windows-order, validated-windows}
+use Rattle.tree.specs.declared.answers.ReachAnswer.the-variants.{Reach, Refused}
 use Rattle.tree.specs.Tables.{componentOf, depthOf}
+use Rattle.tree.specs.Reach.{reachQuestions, reachAnswerOf}
+use Rattle.tree.specs.Passes.{RunEnd}
 
--- All from `at` up to `last` are in one component.
-pub record InComponent (windows : ℕ) (components : List ℕ) (at last : ℕ) : Type 0 where
-  pub start : at ≤ last
-  pub within : last < windows
-  pub same : getD components last 0 ≡ getD components at 0
+-- The entry at `last` is the one at `at`.
+pub record Running (l : List ℕ) (n at last : ℕ) : Type 0 where
+  pub low : at ≤ last
+  pub high : last < n
+  pub same : getD l last 0 ≡ getD l at 0
 
-pub in-component-start : (windows : ℕ) (components : List ℕ) (at : ℕ) → at < windows → InComponent windows components at at
-in-component-start windows components at h = record { start = omega arith; within = h; same = refl }
+module _ (l : List ℕ) (n at : ℕ) where
+  pub running-start : at < n → Running l n at at
+  running-start h = record { low = omega arith; high = h; same = refl }
 
-pub in-component-turn : (windows : ℕ) (components : List ℕ) (at last : ℕ) → last + 1 < windows → getD components (last + 1) 0 ≡ getD components at 0 → InComponent windows components at last → InComponent windows components at (last + 1)
-in-component-turn windows components at last h e s = record { start = omega (arith, s .start); within = h; same = e }
+  module _ (last : ℕ) (s : Running l n at last) where
+    pub running-turn : last + 1 < n → getD l (last + 1) 0 ≡ getD l at 0 → Running l n at (last + 1)
+    running-turn h e = record { low = omega (arith, s .low); high = h; same = e }
 
-module _ (file : List ℕ) (windows : ℕ) (components : List ℕ) (ok : AcceptedPlan file) (counted : windows ≡ windowCount file) (held : Holds components (componentOf file) windows) (at last : ℕ) (s : InComponent windows components at last) where
-  order : IntervalOrder windows (overlaps file)
-  order = rw counted (interval-order file ok)
+    pub running-stops : (getD l (last + 1) 0 ≡ getD l at 0 → ⊥) → RunEnd l n at last
+    running-stops different =
+        record { low = s .low; high = s .high; same = s .same; other = λ h e. different (rw (add-one last) e) }
 
-  component-here : (v : ℕ) → v < windows → getD components v 0 ≡ component (overlaps file) v
+    pub running-ends : n ≤ last + 1 → RunEnd l n at last
+    running-ends done = record { low = s .low; high = s .high; same = s .same; other = λ h e. omega arith }
+
+module _ {file : List ℕ} {windows : ℕ} (plan : AcceptedWindows file windows) {components depths : List ℕ} (c : Holds components (componentOf file) windows) (d : Holds depths (depthOf file) windows) (at last : ℕ) (s : RunEnd components windows at last) where
+  here : (v : ℕ) → v < windows → getD components v 0 ≡ component (overlaps file) v
   unfolding componentOf
-  component-here v h = held .at v h
+  here v h = c .at v h
 
   end : ℕ
   end = lastInComponent windows (overlaps file) at
 
-  at-most : last ≤ end
-  unfolding end
-  at-most =
-      lastInComponent-greatest windows (overlaps file) at last (s .within)
-      (sym (component-here last (s .within)) ∙ (s .same ∙ component-here at (omega (arith, s .start, s .within))))
+  start : at < windows
+  start = omega (arith, s .low, s .high)
 
-  -- Where the next window is in another component, or there is none, this is the last.
-  pub last-stops : last + 1 < windows → (getD components (last + 1) 0 ≡ getD components at 0 → ⊥) → last ≡ lastInComponent windows (overlaps file) at
+  -- In a table of components the run ends at the component's last window.
+  run-last : last ≡ lastInComponent windows (overlaps file) at
   unfolding end
-  last-stops h other =
-      le-antisymm at-most
+  run-last =
+      le-antisymm
+      (lastInComponent-greatest windows (overlaps file) at last (s .high) (sym (here last (s .high)) ∙ (s .same ∙ here at start)))
       (⊎-elim
-      (λ l. absurd (other
-      (component-here (last + 1) h
-      ∙ (component-contiguous order at (last + 1) end (omega (arith, s .start)) (omega arith) (lastInComponent-window windows (overlaps file) at (omega arith)) (sym (lastInComponent-component windows (overlaps file) at))
-      ∙ sym (component-here at (omega (arith, s .start)))))))
+      (λ l. let within : end < windows = lastInComponent-window windows (overlaps file) at start in
+      absurd (s .other (omega arith)
+      (here (suc last) (omega arith)
+      ∙ (component-contiguous (windows-order plan) at (suc last) end (omega (arith, s .low)) l within (sym (lastInComponent-component windows (overlaps file) at))
+      ∙ sym (here at start)))))
       (λ l. l) (lt-or-ge last end))
 
-  pub last-ends : windows ≤ last + 1 → last ≡ lastInComponent windows (overlaps file) at
-  unfolding end
-  last-ends h =
-      le-antisymm at-most
-      (omega (arith, lastInComponent-window windows (overlaps file) at (omega (arith, s .start, s .within)), s .within))
+  -- The reach is one more than the depth there, which is small.
+  pub reach-depth : getD depths last 0 + 1 ≡ reach windows (overlaps file) at
+  unfolding depthOf reach
+  reach-depth = rw (add-one (getD depths last 0)) (ap suc (d .at last (s .high) ∙ ap (depth (overlaps file)) run-last))
 
--- The reach is one more than the depth there.
-pub reach-depth : (file : List ℕ) (windows at last : ℕ) (depths : List ℕ) → Holds depths (depthOf file) windows → last < windows → last ≡ lastInComponent windows (overlaps file) at → getD depths last 0 + 1 ≡ reach windows (overlaps file) at
-unfolding depthOf reach
-reach-depth file windows at last depths held h e =
-    rw (add-one (getD depths last 0)) (ap suc (held .at last h ∙ ap (depth (overlaps file)) e))
-
--- The last window of a component is a window, and its depth is small.
-module _ (file : List ℕ) (windows at last : ℕ) (ok : AcceptedPlan file) (counted : windows ≡ windowCount file) (h : at < windows) (e : last ≡ lastInComponent windows (overlaps file) at) where
-  pub last-window : last < windows
-  last-window = rw e (lastInComponent-window windows (overlaps file) at h)
-
-  pub reach-fits : (depths : List ℕ) → Holds depths (depthOf file) windows → getD depths last 0 < 2048
+  pub reach-fits : getD depths last 0 < 2048
   unfolding depthOf
-  reach-fits depths held =
-      omega (
-        arith,
-        held .at last last-window,
-        depth-lt (interval-order file ok) last (omega (arith, last-window)),
-        accepted-sound file ok .few,
-      )
+  reach-fits = omega (arith, d .at last (s .high), depth-le (tree (overlaps file)) last, s .high, windows-few plan)
+
+-- The answers.
+module _ (file : List ℕ) (at : ℕ) (answer : Validation) (validated : answer ≡ validateOf file) where
+  pub reach-refused : (refusal : Refusal) → answer ≡ Validation.Refused refusal → Refused refusal ≡ reachAnswerOf file at
+  unfolding reachAnswerOf reachQuestions
+  reach-refused = plan-refused file _ Refused _ answer validated
+
+  module _ (plan windows : ℕ) (e : answer ≡ Validation.Accepted plan windows) where
+    pub reach-beyond : windows ≤ at → Refused (record { number = 7; input = 0; position = 0 }) ≡ reachAnswerOf file at
+    unfolding reachAnswerOf reachQuestions question
+    reach-beyond beyond =
+        rw (← validated-windows file answer validated plan windows e .counted)
+        (one-more-no file (question 7 0 0 (ltb at windows)) Refused _ answer validated plan windows e (le-ltb at windows beyond))
+
+    pub reach-found : (r : ℕ) → at < windows → r ≡ reach windows (overlaps file) at → Reach r ≡ reachAnswerOf file at
+    unfolding reachAnswerOf reachQuestions question
+    reach-found r within found =
+        rw (found, ← validated-windows file answer validated plan windows e .counted)
+        (one-more-yes file (question 7 0 0 (ltb at windows)) Refused _ answer validated plan windows e (lt-ltb at windows within))

@@ -1,6 +1,6 @@
 -- Paper 01, "Calls on a plan": "Build writes five tables of two-byte numbers (parent, component, depth, rank, rank of the last)
 -- and the tag file."
--- Vocabulary: tablesFit, buildQuestions, buildOf, afterBuild, afterTags.
+-- Vocabulary: tablesFit, buildQuestions, buildAnswerOf, afterBuild, afterTags.
 use Prim.Native.Nat.{ℕ, _*_}
 use mathlib.Core.Bool.{Bool, _&&_}
 use mathlib.Core.List.{List, [], _∷_, _++_}
@@ -8,10 +8,10 @@ use lib.Dec.{leb}
 use Rattle.sequences.specs.Table.{table, overwritten}
 use Rattle.interval_graph.specs.Numbers.{Numbers}
 use Rattle.wire.specs.Question.{Question, question, firstNo}
-use Rattle.tag.specs.Fields.{tagLength}
-use Rattle.tag.specs.TagFile.{tagFile}
 use Rattle.plan.specs.File.{planNumber, windowCount}
 use Rattle.plan.specs.Validation.{planQuestions}
+use Rattle.tag.specs.Fields.{tagLength}
+use Rattle.tag.specs.TagFile.{tagFile}
 use Rattle.tree.specs.declared.answers.BuildAnswer.{BuildAnswer}
 use Rattle.tree.specs.declared.answers.BuildAnswer.the-variants.{Built, Refused}
 use Rattle.tree.specs.Tables.{componentCount}
@@ -32,8 +32,8 @@ module _ (file : List ℕ) (parents components depths ranks lastRanks tags : ℕ
   buildQuestions =
       planQuestions 0 file ++ (question 8 0 0 (tablesFit (windowCount file) parents components depths ranks lastRanks tags) ∷ [])
 
-  unfoldable pub buildOf : BuildAnswer
-  buildOf = firstNo buildQuestions Refused (Built (planNumber file) (windowCount file) (componentCount file))
+  unfoldable pub buildAnswerOf : BuildAnswer
+  buildAnswerOf = firstNo buildQuestions Refused (Built (planNumber file) (windowCount file) (componentCount file))
 
 -- A table afterwards: "what lies past the written entries stays", and a refusal alters nothing.
 unfoldable pub afterBuild : BuildAnswer → (ℕ → ℕ) → List ℕ → List ℕ

@@ -1,10 +1,10 @@
 -- One table of a plan by itself, for calls that need no more: questions 1 to 6, and 8 for the one table.
--- Vocabulary: tableQuestions, tableOf, afterTable.
+-- Vocabulary: tableQuestions, tableAnswerOf, afterTable.
 use Prim.Native.Nat.{ℕ}
 use mathlib.Core.List.{List, [], _∷_, _++_}
 use lib.Dec.{leb}
-use Rattle.wire.specs.Question.{Question, question, firstNo}
 use Rattle.sequences.specs.Table.{table, overwritten}
+use Rattle.wire.specs.Question.{Question, question, firstNo}
 use Rattle.plan.specs.File.{windowCount}
 use Rattle.plan.specs.Validation.{planQuestions}
 use Rattle.tree.specs.declared.answers.TableAnswer.{TableAnswer}
@@ -14,8 +14,8 @@ use Rattle.tree.specs.declared.answers.TableAnswer.the-variants.{Filled,
 unfoldable pub roomQuestion : (windows room : ℕ) → Question
 roomQuestion windows room = question 8 0 0 (leb windows room)
 
-unfoldable pub tableOf : List ℕ → ℕ → TableAnswer
-tableOf file room =
+unfoldable pub tableAnswerOf : List ℕ → ℕ → TableAnswer
+tableAnswerOf file room =
     firstNo (planQuestions 0 file ++ (roomQuestion (windowCount file) room ∷ [])) Refused (Filled (windowCount file))
 
 -- The table afterwards: its first n entries written, or all of it as it was.

@@ -1,12 +1,10 @@
 -- Paper 01, "Tree", of the windows of a plan file. The tree itself is defined in `interval_graph`, and the overlap of two
 -- windows in `plan`.
--- Vocabulary: offsetAt, endAt, lastOf, parentOf, componentOf, depthOf, sizeOf, rankOf, lastRankOf, componentCount, numbersAt.
+-- Vocabulary: offsetAt, endAt, lastOf, parentOf, componentOf, depthOf, rankOf, lastRankOf, componentCount, numbersAt.
 use Prim.Native.Nat.{ℕ}
 use mathlib.Core.List.{List}
 use Rattle.sequences.specs.Search.{count}
-use Rattle.interval_graph.specs.Tree.{last, parent, isRoot, component, depth}
-use Rattle.interval_graph.specs.PostOrder.{rank, lastRank}
-use Rattle.interval_graph.specs.Size.{size}
+use Rattle.interval_graph.specs.Tree.{last, parent, isRoot, component, depth, rank, lastRank}
 use Rattle.interval_graph.specs.Numbers.{Numbers, numbersOf}
 use Rattle.plan.specs.File.{planNumber, windowCount, windowAt, endOf}
 use Rattle.plan.specs.Overlap.{overlaps}
@@ -29,10 +27,6 @@ module _ (file : List ℕ) where
 
   unfoldable pub depthOf : ℕ → ℕ
   depthOf v = depth (overlaps file) v
-
-  -- The number of windows under v, itself included.
-  unfoldable pub sizeOf : ℕ → ℕ
-  sizeOf v = size (windowCount file) (overlaps file) v
 
   unfoldable pub rankOf : ℕ → ℕ
   rankOf v = rank (windowCount file) (overlaps file) v

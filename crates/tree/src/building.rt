@@ -1,24 +1,19 @@
 // Build: validation, room, and then the passes, one after the other.
 use crate::answers::BuildAnswer;
+use crate::answers::refusal;
 use crate::lasts::fill_lasts;
-use crate::levels::number_levels;
 use crate::parents::find_parents;
-use crate::ranks::fill_ranks;
-use crate::ranks::rank_lasts;
 use crate::tagging::write_tags;
 use plan::Validation;
 use tag::Tag;
-use wire::Refusal;
 ghost use mathlib.Core.Path.{_≡_};
-ghost use mathlib.Core.Bool.{true};
 ghost use Prim.Native.Nat.{_≤_};
 ghost use lib.ListN.{length};
 ghost use Rattle.sequences.specs.Table.{table, overwritten};
-ghost use Rattle.plan.specs.File.{planNumber, windowCount};
-ghost use Rattle.plan.specs.Validation.{AcceptedPlan};
-ghost use Rattle.tag.specs.TagFile.{tagFile};
+ghost use Rattle.plan.specs.AcceptedWindows.{AcceptedWindows};
 ghost use Rattle.tree.specs.Tables.{parentOf, componentOf, depthOf, rankOf, lastRankOf, componentCount, numbersAt};
-ghost use Rattle.tree.specs.Build.{tablesFit, buildOf, afterBuild, afterTags};
+ghost use Rattle.tree.specs.Passes.{Rooms};
+ghost use Rattle.tree.specs.Build.{tablesFit, buildAnswerOf, afterBuild, afterTags};
 
 // Whether tables of so many entries, and a tag file of so many bytes, hold what is to be written.
 fn tables_fit(
@@ -51,46 +46,31 @@ fn tables_fit(
     Tag::LENGTH * windows <= tags
 }
 
-// The five tables and the tag file of an accepted plan that they have room for; answers with the number of components.
+// The five tables of an accepted plan that they have room for; answers with the number of components.
 fn fill_tables(
     file: &[u8],
     windows: usize,
-    plan: u16,
     parents: &mut [u16],
     components: &mut [u16],
     depths: &mut [u16],
     ranks: &mut [u16],
     last_ranks: &mut [u16],
-    tags: &mut [u8],
 ) -> u16
-    requires { ⌜ AcceptedPlan (now file) ⌝ }
-    requires { ⌜ windows ≡ windowCount (now file) ⌝ }
-    requires { ⌜ plan ≡ planNumber (now file) ⌝ }
-    requires { ⌜ tablesFit windows (length (now parents)) (length (now components)) (length (now depths)) (length (now ranks)) (length (now «last_ranks»)) (length (now tags)) ≡ true ⌝ }
+    requires { ⌜ AcceptedWindows (now file) windows ⌝ }
+    requires { ⌜ Rooms windows (length (now parents)) (length (now components)) (length (now depths)) (length (now ranks)) (length (now «last_ranks»)) ⌝ }
     ensures { λ r. ⌜ r ≡ componentCount (now (file .entry)) ⌝ }
     ensures { λ _. ⌜ now (parents .exit) ≡ overwritten (now (parents .entry)) (table (parentOf (now (file .entry))) windows) ⌝ }
     ensures { λ _. ⌜ now (components .exit) ≡ overwritten (now (components .entry)) (table (componentOf (now (file .entry))) windows) ⌝ }
     ensures { λ _. ⌜ now (depths .exit) ≡ overwritten (now (depths .entry)) (table (depthOf (now (file .entry))) windows) ⌝ }
     ensures { λ _. ⌜ now (ranks .exit) ≡ overwritten (now (ranks .entry)) (table (rankOf (now (file .entry))) windows) ⌝ }
     ensures { λ _. ⌜ now («last_ranks» .exit) ≡ overwritten (now («last_ranks» .entry)) (table (lastRankOf (now (file .entry))) windows) ⌝ }
-    ensures { λ _. ⌜ now (tags .exit) ≡ overwritten (now (tags .entry)) (tagFile (numbersAt (now (file .entry))) windows) ⌝ }
 {
     let mut lasts = [0; 2048];
     find_parents(file, windows, parents);
     fill_lasts(file, windows, &mut lasts);
-    let count = number_levels(file, windows, parents, components, depths);
-    fill_ranks(file, windows, parents, ranks);
-    rank_lasts(file, windows, &lasts, ranks, last_ranks);
-    write_tags(
-        file,
-        windows,
-        plan,
-        components,
-        depths,
-        ranks,
-        last_ranks,
-        tags,
-    );
+    let count = forest::fill_levels(parents, windows, components, depths);
+    forest::fill_ranks(parents, windows, ranks);
+    forest::look_up(&lasts, windows, ranks, last_ranks);
     count
 }
 
@@ -104,7 +84,7 @@ pub fn build(
     last_ranks: &mut [u16],
     tags: &mut [u8],
 ) -> BuildAnswer
-    ensures { λ r. ⌜ r ≡ buildOf (now (file .entry)) (length (now (parents .entry))) (length (now (components .entry))) (length (now (depths .entry))) (length (now (ranks .entry))) (length (now («last_ranks» .entry))) (length (now (tags .entry))) ⌝ }
+    ensures { λ r. ⌜ r ≡ buildAnswerOf (now (file .entry)) (length (now (parents .entry))) (length (now (components .entry))) (length (now (depths .entry))) (length (now (ranks .entry))) (length (now («last_ranks» .entry))) (length (now (tags .entry))) ⌝ }
     ensures { λ r. ⌜ now (parents .exit) ≡ afterBuild r (parentOf (now (file .entry))) (now (parents .entry)) ⌝ }
     ensures { λ r. ⌜ now (components .exit) ≡ afterBuild r (componentOf (now (file .entry))) (now (components .entry)) ⌝ }
     ensures { λ r. ⌜ now (depths .exit) ≡ afterBuild r (depthOf (now (file .entry))) (now (depths .entry)) ⌝ }
@@ -112,40 +92,28 @@ pub fn build(
     ensures { λ r. ⌜ now («last_ranks» .exit) ≡ afterBuild r (lastRankOf (now (file .entry))) (now («last_ranks» .entry)) ⌝ }
     ensures { λ r. ⌜ now (tags .exit) ≡ afterTags r (numbersAt (now (file .entry))) (now (tags .entry)) ⌝ }
 {
-    match plan::validate(file) {
-        Validation::Refused(refusal) => BuildAnswer::Refused(refusal),
-        Validation::Accepted { plan, windows } => {
-            if !tables_fit(
-                windows as usize,
-                parents.len(),
-                components.len(),
-                depths.len(),
-                ranks.len(),
-                last_ranks.len(),
-                tags.len(),
-            ) {
-                return BuildAnswer::Refused(Refusal {
-                    number: 8,
-                    input: 0,
-                    position: 0,
-                });
-            }
-            let count = fill_tables(
-                file,
-                windows as usize,
-                plan,
-                parents,
-                components,
-                depths,
-                ranks,
-                last_ranks,
-                tags,
-            );
-            BuildAnswer::Built {
-                plan,
-                windows,
-                components: count,
-            }
-        }
+    let windows = match plan::validate(file) {
+        Validation::Accepted { plan: _, windows } => windows,
+        Validation::Refused(refusal) => return BuildAnswer::Refused(refusal),
+    };
+    let n = windows as usize;
+    if !tables_fit(
+        n,
+        parents.len(),
+        components.len(),
+        depths.len(),
+        ranks.len(),
+        last_ranks.len(),
+        tags.len(),
+    ) {
+        return BuildAnswer::Refused(refusal(8));
+    }
+    let plan = wire::read_u16(file, 0);
+    let count = fill_tables(file, n, parents, components, depths, ranks, last_ranks);
+    write_tags(n, plan, components, depths, ranks, last_ranks, tags);
+    BuildAnswer::Built {
+        plan,
+        windows,
+        components: count,
     }
 }

@@ -1,17 +1,16 @@
 // The last of each window, by a search over the later windows' offsets, which do not fall.
 use crate::answers::TableAnswer;
+use crate::answers::refusal;
 use crate::windows::end_at;
 use crate::windows::read_offsets;
 use plan::Validation;
-use wire::Refusal;
 ghost use mathlib.Core.Path.{_≡_};
 ghost use Prim.Native.Nat.{_≤_, _<_};
 ghost use lib.ListN.{length};
 ghost use Rattle.sequences.specs.Table.{table, overwritten};
 ghost use Rattle.tree.specs.Tables.{lastOf};
-ghost use Rattle.plan.specs.File.{windowCount};
-ghost use Rattle.plan.specs.Validation.{AcceptedPlan};
-ghost use Rattle.tree.specs.SingleTable.{tableOf, afterTable};
+ghost use Rattle.plan.specs.AcceptedWindows.{AcceptedWindows};
+ghost use Rattle.tree.specs.SingleTable.{tableAnswerOf, afterTable};
 ghost use Rattle.tree.specs.Passes.{Prepared, Sorted, LastBefore};
 
 // The last position whose offset lies before the end; 0 where there is none. The table is as long for every plan and the
@@ -44,8 +43,7 @@ fn find_lasts(file: &[u8], windows: usize, offsets: &[u32], lasts: &mut [u16])
 }
 
 pub(crate) fn fill_lasts(file: &[u8], windows: usize, lasts: &mut [u16])
-    requires { ⌜ AcceptedPlan (now file) ⌝ }
-    requires { ⌜ windows ≡ windowCount (now file) ⌝ }
+    requires { ⌜ AcceptedWindows (now file) windows ⌝ }
     requires { ⌜ windows ≤ length (now lasts) ⌝ }
     ensures { λ _. ⌜ now (lasts .exit) ≡ overwritten (now (lasts .entry)) (table (lastOf (now (file .entry))) windows) ⌝ }
 {
@@ -56,7 +54,7 @@ pub(crate) fn fill_lasts(file: &[u8], windows: usize, lasts: &mut [u16])
 
 // The last table by itself.
 pub fn last_table(file: &[u8], lasts: &mut [u16]) -> TableAnswer
-    ensures { λ r. ⌜ r ≡ tableOf (now (file .entry)) (length (now (lasts .entry))) ⌝ }
+    ensures { λ r. ⌜ r ≡ tableAnswerOf (now (file .entry)) (length (now (lasts .entry))) ⌝ }
     ensures { λ r. ⌜ now (lasts .exit) ≡ afterTable r (lastOf (now (file .entry))) (now (lasts .entry)) ⌝ }
 {
     let windows = match plan::validate(file) {
@@ -64,11 +62,7 @@ pub fn last_table(file: &[u8], lasts: &mut [u16]) -> TableAnswer
         Validation::Refused(refusal) => return TableAnswer::Refused(refusal),
     };
     if lasts.len() < windows as usize {
-        return TableAnswer::Refused(Refusal {
-            number: 8,
-            input: 0,
-            position: 0,
-        });
+        return TableAnswer::Refused(refusal(8));
     }
     fill_lasts(file, windows as usize, lasts);
     TableAnswer::Filled { windows }

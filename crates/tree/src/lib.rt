@@ -2,11 +2,8 @@
 mod answers;
 mod building;
 mod lasts;
-mod levels;
 mod parents;
-mod ranks;
 mod reaching;
-mod sizes;
 mod tagging;
 mod windows;
 

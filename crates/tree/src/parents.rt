@@ -1,9 +1,9 @@
 // The parent table, by two fingers: the parent moves only to the right as the window does, so all of it is linear.
 use crate::answers::TableAnswer;
+use crate::answers::refusal;
 use crate::windows::end_at;
 use crate::windows::offset_at;
 use plan::Validation;
-use wire::Refusal;
 ghost use mathlib.Core.Path.{_≡_};
 ghost use Prim.Native.Nat.{_≤_};
 ghost use lib.ListN.{length};
@@ -11,7 +11,8 @@ ghost use Rattle.sequences.specs.Table.{table, overwritten};
 ghost use Rattle.tree.specs.Tables.{parentOf, endAt};
 ghost use Rattle.plan.specs.File.{windowCount};
 ghost use Rattle.plan.specs.Validation.{AcceptedPlan};
-ghost use Rattle.tree.specs.SingleTable.{tableOf, afterTable};
+ghost use Rattle.plan.specs.AcceptedWindows.{AcceptedWindows};
+ghost use Rattle.tree.specs.SingleTable.{tableAnswerOf, afterTable};
 ghost use Rattle.tree.specs.Passes.{FirstPast};
 
 // The first position from `from` on whose end lies past the offset, or `to` where there is none before it.
@@ -32,8 +33,7 @@ fn first_past(file: &[u8], offset: u32, from: usize, to: usize) -> usize
 }
 
 pub(crate) fn find_parents(file: &[u8], windows: usize, parents: &mut [u16])
-    requires { ⌜ AcceptedPlan (now file) ⌝ }
-    requires { ⌜ windows ≡ windowCount (now file) ⌝ }
+    requires { ⌜ AcceptedWindows (now file) windows ⌝ }
     requires { ⌜ windows ≤ length (now parents) ⌝ }
     ensures { λ _. ⌜ now (parents .exit) ≡ overwritten (now (parents .entry)) (table (parentOf (now (file .entry))) windows) ⌝ }
 {
@@ -48,7 +48,7 @@ pub(crate) fn find_parents(file: &[u8], windows: usize, parents: &mut [u16])
 
 // The parent table by itself.
 pub fn parent_table(file: &[u8], parents: &mut [u16]) -> TableAnswer
-    ensures { λ r. ⌜ r ≡ tableOf (now (file .entry)) (length (now (parents .entry))) ⌝ }
+    ensures { λ r. ⌜ r ≡ tableAnswerOf (now (file .entry)) (length (now (parents .entry))) ⌝ }
     ensures { λ r. ⌜ now (parents .exit) ≡ afterTable r (parentOf (now (file .entry))) (now (parents .entry)) ⌝ }
 {
     let windows = match plan::validate(file) {
@@ -56,11 +56,7 @@ pub fn parent_table(file: &[u8], parents: &mut [u16]) -> TableAnswer
         Validation::Refused(refusal) => return TableAnswer::Refused(refusal),
     };
     if parents.len() < windows as usize {
-        return TableAnswer::Refused(Refusal {
-            number: 8,
-            input: 0,
-            position: 0,
-        });
+        return TableAnswer::Refused(refusal(8));
     }
     find_parents(file, windows as usize, parents);
     TableAnswer::Filled { windows }

@@ -1,30 +1,26 @@
 // Reach: the depth of the last window of a position's component, plus 1.
 use crate::answers::ReachAnswer;
-use crate::levels::number_levels;
+use crate::answers::refusal;
 use crate::parents::find_parents;
 use plan::Validation;
-use wire::Refusal;
 ghost use mathlib.Core.Path.{_≡_};
-ghost use Prim.Native.Nat.{_<_};
-ghost use Rattle.sequences.specs.Table.{Holds};
-ghost use Rattle.interval_graph.specs.Reach.{lastInComponent, reach as reachIn};
-ghost use Rattle.plan.specs.File.{windowCount};
+ghost use Prim.Native.Nat.{_≤_, _<_};
+ghost use lib.ListN.{length};
+ghost use Rattle.interval_graph.specs.Reach.{reach as reachIn};
 ghost use Rattle.plan.specs.Overlap.{overlaps};
-ghost use Rattle.plan.specs.Validation.{AcceptedPlan};
-ghost use Rattle.tree.specs.Tables.{componentOf};
-ghost use Rattle.tree.specs.ReachCall.{reachOf};
+ghost use Rattle.plan.specs.AcceptedWindows.{AcceptedWindows};
+ghost use Rattle.tree.specs.Passes.{RunEnd};
+ghost use Rattle.tree.specs.Reach.{reachAnswerOf};
 
-// The greatest position in a position's component: components are contiguous, so it stands before the first other one.
-fn last_in_component(file: &[u8], windows: usize, components: &[u16], at: usize) -> usize
-    requires { ⌜ AcceptedPlan (now file) ⌝ }
-    requires { ⌜ windows ≡ windowCount (now file) ⌝ }
-    requires { ⌜ Holds (now components) (componentOf (now file)) windows ⌝ }
-    requires { ⌜ at < windows ⌝ }
-    ensures { λ r. ⌜ r ≡ lastInComponent windows (overlaps (now (file .entry))) at ⌝ }
+// The end of the run of equal entries from a position on. Components are contiguous, so in their table it is the component's last.
+fn run_end(table: &[u16], entries: usize, at: usize) -> usize
+    requires { ⌜ entries ≤ length (now table) ⌝ }
+    requires { ⌜ at < entries ⌝ }
+    ensures { λ r. ⌜ RunEnd (now (table .entry)) entries at r ⌝ }
 {
     let mut last = at;
-    while last + 1 < windows {
-        if components[last + 1] != components[at] {
+    while last + 1 < entries {
+        if table[last + 1] != table[at] {
             return last;
         }
         last += 1;
@@ -33,8 +29,7 @@ fn last_in_component(file: &[u8], windows: usize, components: &[u16], at: usize)
 }
 
 fn find_reach(file: &[u8], windows: usize, at: usize) -> u16
-    requires { ⌜ AcceptedPlan (now file) ⌝ }
-    requires { ⌜ windows ≡ windowCount (now file) ⌝ }
+    requires { ⌜ AcceptedWindows (now file) windows ⌝ }
     requires { ⌜ at < windows ⌝ }
     ensures { λ r. ⌜ r ≡ reachIn windows (overlaps (now (file .entry))) at ⌝ }
 {
@@ -42,25 +37,21 @@ fn find_reach(file: &[u8], windows: usize, at: usize) -> u16
     let mut components = [0; 2048];
     let mut depths = [0; 2048];
     find_parents(file, windows, &mut parents);
-    number_levels(file, windows, &parents, &mut components, &mut depths);
-    let last = last_in_component(file, windows, &components, at);
+    forest::fill_levels(&parents, windows, &mut components, &mut depths);
+    let last = run_end(&components, windows, at);
     depths[last] + 1
 }
 
 // The reach of a position's component.
 pub fn reach(file: &[u8], at: usize) -> ReachAnswer
-    ensures { λ r. ⌜ r ≡ reachOf (now (file .entry)) at ⌝ }
+    ensures { λ r. ⌜ r ≡ reachAnswerOf (now (file .entry)) at ⌝ }
 {
     let windows = match plan::validate(file) {
         Validation::Accepted { plan: _, windows } => windows as usize,
         Validation::Refused(refusal) => return ReachAnswer::Refused(refusal),
     };
     if windows <= at {
-        return ReachAnswer::Refused(Refusal {
-            number: 7,
-            input: 0,
-            position: 0,
-        });
+        return ReachAnswer::Refused(refusal(7));
     }
     ReachAnswer::Reach(find_reach(file, windows, at))
 }

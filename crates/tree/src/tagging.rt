@@ -1,15 +1,12 @@
-// The tag file: the tags of the windows in order of position.
+// The tag file: the tags of the windows in order of position, from the tables of their numbers.
 ghost use mathlib.Core.Path.{_≡_};
 ghost use Prim.Native.Nat.{_*_, _≤_};
 ghost use lib.ListN.{length};
 ghost use Rattle.sequences.specs.Table.{overwritten};
-ghost use Rattle.plan.specs.File.{planNumber};
 ghost use Rattle.tag.specs.TagFile.{tagFile};
-ghost use Rattle.tree.specs.Tables.{numbersAt};
-ghost use Rattle.tree.specs.Passes.{Numbered};
+ghost use Rattle.tree.specs.Tagging.{numbersIn, Numbered};
 
 pub(crate) fn write_tags(
-    file: &[u8],
     windows: usize,
     plan: u16,
     components: &[u16],
@@ -18,10 +15,9 @@ pub(crate) fn write_tags(
     last_ranks: &[u16],
     tags: &mut [u8],
 )
-    requires { ⌜ Numbered (now file) windows (now components) (now depths) (now ranks) (now «last_ranks») ⌝ }
-    requires { ⌜ plan ≡ planNumber (now file) ⌝ }
+    requires { ⌜ Numbered windows plan (now components) (now depths) (now ranks) (now «last_ranks») ⌝ }
     requires { ⌜ 10 * windows ≤ length (now tags) ⌝ }
-    ensures { λ _. ⌜ now (tags .exit) ≡ overwritten (now (tags .entry)) (tagFile (numbersAt (now (file .entry))) windows) ⌝ }
+    ensures { λ _. ⌜ now (tags .exit) ≡ overwritten (now (tags .entry)) (tagFile (numbersIn plan (now (components .entry)) (now (depths .entry)) (now (ranks .entry)) (now («last_ranks» .entry))) windows) ⌝ }
 {
     let mut position = 0;
     while position < windows {

@@ -6,6 +6,7 @@ ghost use lib.ListN.{length};
 ghost use Rattle.sequences.specs.Table.{table, overwritten};
 ghost use Rattle.plan.specs.File.{windowCount, windowAt};
 ghost use Rattle.plan.specs.Validation.{AcceptedPlan};
+ghost use Rattle.plan.specs.AcceptedWindows.{AcceptedWindows};
 ghost use Rattle.tree.specs.Tables.{offsetAt, endAt};
 
 fn window_at(file: &[u8], position: usize) -> Window
@@ -36,8 +37,7 @@ pub(crate) fn end_at(file: &[u8], position: usize) -> u32
 }
 
 pub(crate) fn read_offsets(file: &[u8], windows: usize, offsets: &mut [u32])
-    requires { ⌜ AcceptedPlan (now file) ⌝ }
-    requires { ⌜ windows ≡ windowCount (now file) ⌝ }
+    requires { ⌜ AcceptedWindows (now file) windows ⌝ }
     requires { ⌜ windows ≤ length (now offsets) ⌝ }
     ensures { λ _. ⌜ now (offsets .exit) ≡ overwritten (now (offsets .entry)) (table (offsetAt (now (file .entry))) windows) ⌝ }
 {

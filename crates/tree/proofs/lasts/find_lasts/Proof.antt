@@ -21,7 +21,7 @@ loop-holds c = filling-start _ _ _
 
 end-at-requires : tie.Need-end-at-requires Inv-loop μ-loop
 end-at-requires c κs = let d = c .before .before .before .before .before in
-    (d .pre .0 .accepted, omega (arith, d .pre .0 .counted))
+    (d .pre .0 .plan .accepted, omega (arith, d .pre .0 .plan .counted))
 
 last-before-requires : tie.Need-last-before-requires Inv-loop μ-loop
 last-before-requires c κs = let d = c .before .before .before .before .before .before in

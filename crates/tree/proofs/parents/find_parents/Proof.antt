@@ -2,9 +2,8 @@
 -- Assumes nothing.
 use Prim.Native.Nat.{_-_}
 use native.Mathlib.Omega.{arith}
-use denote.Ref.{now}
 use Rattle.sequences.proofs.Table.{filling-end}
-use Rattle.tree.proofs.Reading.{windows-fit}
+use Rattle.plan.proofs.Counted.{windows-few}
 use Rattle.tree.proofs.Prepared.{Fingers, fingers-start, fingers-turn}
 use borrow.Author.Needs.{needs}
 use Rattle.tree.proofs.parents.find_parents.Statement.{statement}
@@ -27,7 +26,7 @@ first-past-requires c κs = search needs
 
 cast-parents : tie.Need-cast-parents Inv-loop μ-loop
 cast-parents c = let d = c .before .before .before .before .before .before in
-    omega (arith, c .first-past .ensures .high, windows-fit (now (d .args .file)) (d .args .windows) (d .pre .0) (d .pre .1 .0))
+    omega (arith, c .first-past .ensures .high, windows-few (d .pre .0))
 
 mul-parents : tie.Need-mul-parents Inv-loop μ-loop
 mul-parents c = search needs
@@ -43,7 +42,7 @@ loop-less c = search needs
 
 loop-again : tie.Need-loop-again Inv-loop μ-loop
 loop-again c = let d = c .before .before .before .before .before .before in
-    fingers-turn _ _ (d .pre .0) (d .pre .1 .0) _ _ _ _ _ (d .pre .1 .1) (c .before .before .loop-test .taken) (rw (c .before .offset-at .ensures) at (c .first-past .ensures)) (c .before .before .before .loop .inv)
+    fingers-turn (d .pre .0) _ _ _ _ _ (d .pre .1) (c .before .before .loop-test .taken) (rw (c .before .offset-at .ensures) at (c .first-past .ensures)) (c .before .before .before .loop .inv)
 
 same-length : tie.Need-same-length Inv-loop μ-loop
 same-length c = search needs

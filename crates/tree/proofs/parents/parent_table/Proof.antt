@@ -1,9 +1,9 @@
 -- `tree::parents::parent_table` meets its contract: the validation's refusal, then question 8, then the table.
 -- Assumes nothing.
-use mathlib.Core.Path.{refl, sym, _∙_}
+use mathlib.Core.Path.{refl}
+use Rattle.plan.proofs.Counted.{validated-windows}
 use Rattle.tree.specs.SingleTable.{afterTable}
-use Rattle.plan.proofs.Calls.{accepted-numbers, accepted-plan}
-use Rattle.tree.proofs.Validated.{table-refused, table-short, table-filled}
+use Rattle.tree.proofs.SingleTabled.{table-refused, table-short, table-filled}
 use borrow.Author.Needs.{needs}
 use Rattle.tree.proofs.parents.parent_table.Statement.{statement}
 use Rattle.tree.proofs.parents.parent_table.Tie as tie
@@ -19,28 +19,30 @@ enum-known-refusal c = search needs
 
 returns : tie.Need-returns
 unfolding afterTable
-returns c = (table-refused _ _ (c .before .before .before .validate .ensures) _ _ (c .before .refusal .given .1), refl)
+returns c = (table-refused _ _ _ (c .before .before .before .validate .ensures) _ (c .before .refusal .given .1), refl)
 
 cast-if1 : tie.Need-cast-if1
 cast-if1 c = search needs
 
+refusal-requires : tie.Need-refusal-requires
+refusal-requires c κs = search needs
+
 returns-2 : tie.Need-returns-2
 unfolding afterTable
-returns-2 c = (table-short _ _ (c .before .before .before .before .validate .ensures) _ _ (c .before .before .windows .given .1) _ (c .if1 .taken), refl)
+returns-2 c = rw (c .refusal2 .ensures) (table-short _ _ _ (c .before .before .before .before .before .validate .ensures) _ _ (c .before .before .before .windows .given .1) (c .before .if1 .taken), refl)
 
 cast-find-parents : tie.Need-cast-find-parents
 cast-find-parents c = search needs
 
 find-parents-requires : tie.Need-find-parents-requires
-find-parents-requires c κs = let e = sym (c .before .before .before .windows .given .1) ∙ c .before .before .before .before .before .validate .ensures in
-    (accepted-plan _ _ _ e, (accepted-numbers _ _ _ e .1, c .before .if1 .left))
+find-parents-requires c κs = (validated-windows _ _ (c .before .before .before .before .before .validate .ensures) _ _ (c .before .before .before .windows .given .1), c .before .if1 .left)
 
 same-length : tie.Need-same-length
 same-length c = search needs
 
 returns-3 : tie.Need-returns-3
 unfolding afterTable
-returns-3 c = (table-filled _ _ (c .before .before .before .before .before .before .before .before .validate .ensures) _ _ (c .before .before .before .before .before .before .windows .given .1) _ (c .before .before .before .before .if1 .left), c .before .before .find-parents .ensures)
+returns-3 c = (table-filled _ _ _ (c .before .before .before .before .before .before .before .before .validate .ensures) _ _ (c .before .before .before .before .before .before .windows .given .1) (c .before .before .before .before .if1 .left), c .before .before .find-parents .ensures)
 
 pub parent-table-spec : {M : Type 1} → statement M
 parent-table-spec =
@@ -51,6 +53,7 @@ parent-table-spec =
     enum-known-refusal
     returns
     cast-if1
+    refusal-requires
     returns-2
     cast-find-parents
     find-parents-requires

@@ -3,9 +3,9 @@
 -- Assumes nothing.
 use native.Mathlib.Omega.{arith}
 use Rattle.sequences.proofs.Table.{overwritten-holds}
-use Rattle.tree.proofs.Reading.{windows-fit}
-use Rattle.tree.proofs.Fitting.{parented-filled}
-use Rattle.tree.proofs.Reached.{last-window, reach-fits, reach-depth}
+use Rattle.plan.proofs.Counted.{windows-few}
+use Rattle.tree.proofs.Built.{components-filled, depths-filled}
+use Rattle.tree.proofs.Reached.{reach-fits, reach-depth}
 use borrow.Author.Needs.{needs}
 use Rattle.tree.proofs.reaching.find_reach.Statement.{statement}
 use Rattle.tree.proofs.reaching.find_reach.Tie as tie
@@ -14,47 +14,50 @@ slice-aggregate-find-parents : tie.Need-slice-aggregate-find-parents
 slice-aggregate-find-parents c = search needs
 
 find-parents-requires : tie.Need-find-parents-requires
-find-parents-requires c κs = let q = c .before .before .pre in
-    (q .0, (q .1 .0, windows-fit _ _ (q .0) (q .1 .0)))
+find-parents-requires c κs = (c .before .before .pre .0, windows-few (c .before .before .pre .0))
 
-slice-aggregate-number-levels : tie.Need-slice-aggregate-number-levels
-slice-aggregate-number-levels c = search needs
+slice-aggregate-fill-levels : tie.Need-slice-aggregate-fill-levels
+slice-aggregate-fill-levels c = search needs
 
-slice-aggregate-number-levels-2 : tie.Need-slice-aggregate-number-levels-2
-slice-aggregate-number-levels-2 c = search needs
+slice-aggregate-fill-levels-2 : tie.Need-slice-aggregate-fill-levels-2
+slice-aggregate-fill-levels-2 c = search needs
 
-slice-aggregate-number-levels-3 : tie.Need-slice-aggregate-number-levels-3
-slice-aggregate-number-levels-3 c = search needs
+slice-aggregate-fill-levels-3 : tie.Need-slice-aggregate-fill-levels-3
+slice-aggregate-fill-levels-3 c = search needs
 
-number-levels-requires : tie.Need-number-levels-requires
-number-levels-requires c κs = let q = c .before .before .before .before .before .before .before .pre in
-    let fits = windows-fit _ _ (q .0) (q .1 .0) in
-    (parented-filled _ _ _ _ (q .0) (q .1 .0) fits (c .before .before .before .before .find-parents .ensures), (fits, fits))
+fill-levels-requires : tie.Need-fill-levels-requires
+fill-levels-requires c κs = search needs
 
-slice-aggregate-last-in-component : tie.Need-slice-aggregate-last-in-component
-slice-aggregate-last-in-component c = search needs
+slice-aggregate-run-end : tie.Need-slice-aggregate-run-end
+slice-aggregate-run-end c = search needs
 
-last-in-component-requires : tie.Need-last-in-component-requires
-last-in-component-requires c κs = let q = c .before .before .before .before .before .before .before .before .before .before .before .pre in
-    (q .0, (q .1 .0, (overwritten-holds _ _ _ _ (windows-fit _ _ (q .0) (q .1 .0)) (c .before .before .before .number-levels .ensures .1 .0), q .1 .1)))
+run-end-requires : tie.Need-run-end-requires
+run-end-requires c κs = let q = c .before .before .before .before .before .before .before .before .before .before .before .pre .0 in
+    let few = windows-few q in
+    let parents = overwritten-holds _ _ _ _ (windows-few q) (c .before .before .before .before .before .before .before .before .find-parents .ensures) in
+    (overwritten-holds _ _ _ _ few (components-filled q parents _ _ _ (c .before .before .before .fill-levels .ensures .1 .0) (omega arith)) .long, c .before .before .before .before .before .before .before .before .before .before .before .pre .1)
 
 mul-result : tie.Need-mul-result
-mul-result c = let q = c .before .before .before .before .before .before .before .before .before .before .before .before .pre in
-    omega (arith, last-window _ _ _ _ (q .0) (q .1 .0) (q .1 .1) (c .last-in-component .ensures), windows-fit _ _ (q .0) (q .1 .0))
+mul-result c = omega (arith, c .run-end .ensures .high, windows-few (c .before .before .before .before .before .before .before .before .before .before .before .before .pre .0))
 
 array-read-result : tie.Need-array-read-result
-array-read-result c = let q = c .before .before .before .before .before .before .before .before .before .before .before .before .pre in
-    omega (arith, last-window _ _ _ _ (q .0) (q .1 .0) (q .1 .1) (c .last-in-component .ensures), windows-fit _ _ (q .0) (q .1 .0))
+array-read-result c = omega (arith, c .run-end .ensures .high, windows-few (c .before .before .before .before .before .before .before .before .before .before .before .before .pre .0))
 
 add-result : tie.Need-add-result
-add-result c = let q = c .before .before .before .before .before .before .before .before .before .before .before .before .pre in
-    let held = overwritten-holds _ _ _ _ (windows-fit _ _ (q .0) (q .1 .0)) (c .before .before .before .before .number-levels .ensures .1 .1) in
-    omega (arith, reach-fits _ _ _ _ (q .0) (q .1 .0) (q .1 .1) (c .last-in-component .ensures) _ held)
+add-result c = let q = c .before .before .before .before .before .before .before .before .before .before .before .before .pre .0 in
+    let few = windows-few q in
+    let parents = overwritten-holds _ _ _ _ (windows-few q) (c .before .before .before .before .before .before .before .before .before .find-parents .ensures) in
+    let components = overwritten-holds _ _ _ _ few (components-filled q parents _ _ _ (c .before .before .before .before .fill-levels .ensures .1 .0) (omega arith)) in
+    let depths = overwritten-holds _ _ _ _ few (depths-filled q parents _ _ _ (c .before .before .before .before .fill-levels .ensures .1 .1) (omega arith)) in
+    omega (arith, reach-fits q components depths _ _ (c .run-end .ensures))
 
 returns : tie.Need-returns
-returns c = let q = c .before .before .before .before .before .before .before .before .before .before .before .before .pre in
-    let held = overwritten-holds _ _ _ _ (windows-fit _ _ (q .0) (q .1 .0)) (c .before .before .before .before .number-levels .ensures .1 .1) in
-    reach-depth _ _ _ _ _ held (last-window _ _ _ _ (q .0) (q .1 .0) (q .1 .1) (c .last-in-component .ensures)) (c .last-in-component .ensures)
+returns c = let q = c .before .before .before .before .before .before .before .before .before .before .before .before .pre .0 in
+    let few = windows-few q in
+    let parents = overwritten-holds _ _ _ _ (windows-few q) (c .before .before .before .before .before .before .before .before .before .find-parents .ensures) in
+    let components = overwritten-holds _ _ _ _ few (components-filled q parents _ _ _ (c .before .before .before .before .fill-levels .ensures .1 .0) (omega arith)) in
+    let depths = overwritten-holds _ _ _ _ few (depths-filled q parents _ _ _ (c .before .before .before .before .fill-levels .ensures .1 .1) (omega arith)) in
+    reach-depth q components depths _ _ (c .run-end .ensures)
 
 pub find-reach-spec : {M : Type 1} → statement M
 find-reach-spec =
@@ -62,12 +65,12 @@ find-reach-spec =
     (tie.spec
     slice-aggregate-find-parents
     find-parents-requires
-    slice-aggregate-number-levels
-    slice-aggregate-number-levels-2
-    slice-aggregate-number-levels-3
-    number-levels-requires
-    slice-aggregate-last-in-component
-    last-in-component-requires
+    slice-aggregate-fill-levels
+    slice-aggregate-fill-levels-2
+    slice-aggregate-fill-levels-3
+    fill-levels-requires
+    slice-aggregate-run-end
+    run-end-requires
     mul-result
     array-read-result
     add-result

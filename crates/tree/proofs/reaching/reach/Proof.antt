@@ -1,8 +1,7 @@
 -- `tree::reaching::reach` meets its contract: the validation's refusal, then question 7, then the reach.
 -- Assumes nothing.
-use mathlib.Core.Path.{sym, _∙_}
-use Rattle.plan.proofs.Calls.{accepted-numbers, accepted-plan}
-use Rattle.tree.proofs.Validated.{reach-refused, reach-beyond, reach-found}
+use Rattle.plan.proofs.Counted.{validated-windows}
+use Rattle.tree.proofs.Reached.{reach-refused, reach-beyond, reach-found}
 use borrow.Author.Needs.{needs}
 use Rattle.tree.proofs.reaching.reach.Statement.{statement}
 use Rattle.tree.proofs.reaching.reach.Tie as tie
@@ -20,17 +19,19 @@ enum-known-refusal : tie.Need-enum-known-refusal
 enum-known-refusal c = search needs
 
 returns : tie.Need-returns
-returns c = reach-refused _ _ (c .before .before .before .validate .ensures) _ _ (c .before .refusal .given .1)
+returns c = reach-refused _ _ _ (c .before .before .before .validate .ensures) _ (c .before .refusal .given .1)
+
+refusal-requires : tie.Need-refusal-requires
+refusal-requires c κs = search needs
 
 returns-2 : tie.Need-returns-2
-returns-2 c = reach-beyond _ _ (c .before .before .before .before .validate .ensures) _ _ (c .before .before .windows .given .1) _ (c .if1 .taken)
+returns-2 c = rw (c .refusal2 .ensures) (reach-beyond _ _ _ (c .before .before .before .before .before .validate .ensures) _ _ (c .before .before .before .windows .given .1) (c .before .if1 .taken))
 
 find-reach-requires : tie.Need-find-reach-requires
-find-reach-requires c κs = let e = sym (c .before .before .windows .given .1) ∙ c .before .before .before .before .validate .ensures in
-    (accepted-plan _ _ _ e, (accepted-numbers _ _ _ e .1, c .if1 .left))
+find-reach-requires c κs = (validated-windows _ _ (c .before .before .before .before .validate .ensures) _ _ (c .before .before .windows .given .1), c .if1 .left)
 
 returns-3 : tie.Need-returns-3
-returns-3 c = reach-found _ _ (c .before .before .before .before .before .validate .ensures) _ _ (c .before .before .before .windows .given .1) _ _ (c .before .if1 .left) (c .find-reach .ensures)
+returns-3 c = reach-found _ _ _ (c .before .before .before .before .before .validate .ensures) _ _ (c .before .before .before .windows .given .1) _ (c .before .if1 .left) (c .find-reach .ensures)
 
 pub reach-spec : {M : Type 1} → statement M
 reach-spec =
@@ -41,6 +42,7 @@ reach-spec =
     cast-windows
     enum-known-refusal
     returns
+    refusal-requires
     returns-2
     find-reach-requires
     returns-3)

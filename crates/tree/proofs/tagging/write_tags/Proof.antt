@@ -2,16 +2,17 @@
 -- Assumes nothing.
 use Prim.Native.Nat.{_-_}
 use native.Mathlib.Omega.{arith}
-use Rattle.tree.proofs.Tagged.{Tagged, tagged-start, tagged-turn, tagged-end, numbers-here}
+use Rattle.tree.specs.Tagging.{numbersIn}
+use Rattle.tree.proofs.Tagged.{Tagged, tagged-start, tagged-turn, tagged-end}
 use borrow.Author.Needs.{needs}
 use Rattle.tree.proofs.tagging.write_tags.Statement.{statement}
 use Rattle.tree.proofs.tagging.write_tags.Tie as tie
 
 abbrev Inv-loop : tie.InvT-loop
-Inv-loop file windows plan components depths ranks last-ranks tags₀ position₀ tags position = Tagged file windows tags₀ tags position
+Inv-loop windows plan components depths ranks last-ranks tags₀ position₀ tags position = Tagged (numbersIn plan components depths ranks last-ranks) windows tags₀ tags position
 
 abbrev μ-loop : tie.MeasureT-loop
-μ-loop file windows plan components depths ranks last-ranks tags₀ position₀ tags position = windows - position
+μ-loop windows plan components depths ranks last-ranks tags₀ position₀ tags position = windows - position
 
 loop-holds : tie.Need-loop-holds Inv-loop μ-loop
 loop-holds c = tagged-start _ _ _
@@ -63,10 +64,9 @@ loop-less c = search needs
 
 loop-again : tie.Need-loop-again Inv-loop μ-loop
 loop-again c = let w = c .before .before .write .ensures in
-    let d = c .before .before .before .before .before .before .before .before in
-    let q = d .before .before .before .before .before .before .before .before .pre in
-    let h = d .loop-test .taken in
-    tagged-turn (q .0) _ h _ _ _ _ _ (q .1 .1) (numbers-here (q .0) _ h _ (q .1 .0)) (w .0) (w .1) (d .before .loop .inv)
+    let q = c .before .before .before .before .before .before .before .before .before .before .before .before .before .before .before .pre in
+    let h = c .before .before .before .before .before .before .before .before .loop-test .taken in
+    tagged-turn _ _ _ h (q .0 .fit _ h) _ _ _ _ (q .1) (w .0) (w .1) (c .before .before .before .before .before .before .before .before .before .loop .inv)
 
 same-length : tie.Need-same-length Inv-loop μ-loop
 same-length c = search needs

@@ -35,7 +35,7 @@ loop-less c = search needs
 
 loop-again : tie.Need-loop-again Inv-loop μ-loop
 loop-again c = let d = c .before .before .before .before .before in
-    filling-turn _ _ _ _ _ _ (d .pre .1 .1) (c .before .loop-test .taken) (c .offset-at .ensures) (c .before .before .loop .inv)
+    filling-turn _ _ _ _ _ _ (d .pre .1) (c .before .loop-test .taken) (c .offset-at .ensures) (c .before .before .loop .inv)
 
 same-length : tie.Need-same-length Inv-loop μ-loop
 same-length c = search needs

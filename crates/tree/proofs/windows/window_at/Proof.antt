@@ -1,22 +1,21 @@
 -- `tree::windows::window_at` meets its contract: the window's own eight bytes lie in the file.
 -- Assumes nothing.
-use mathlib.Core.Path.{refl}
 use native.Mathlib.Omega.{arith}
 use denote.Ref.{now}
 use Rattle.plan.proofs.Validation.{window-at}
-use Rattle.tree.proofs.Reading.{window-within, windows-fit}
+use Rattle.tree.proofs.Reading.{window-within}
 use borrow.Author.Needs.{needs}
 use Rattle.tree.proofs.windows.window_at.Statement.{statement}
 use Rattle.tree.proofs.windows.window_at.Tie as tie
 
 mul-at : tie.Need-mul-at
-mul-at c = omega (arith, windows-fit (now (c .before .args .file)) _ (c .before .pre .0) refl)
+mul-at c = omega (arith, window-within (now (c .before .args .file)) (c .before .pre .0) (c .before .args .position) (c .before .pre .1))
 
 add-at : tie.Need-add-at
-add-at c = omega (arith, windows-fit (now (c .before .args .file)) _ (c .before .pre .0) refl)
+add-at c = omega (arith, window-within (now (c .before .args .file)) (c .before .pre .0) (c .before .args .position) (c .before .pre .1))
 
 add-read-window : tie.Need-add-read-window
-add-read-window c = omega (arith, windows-fit (now (c .before .args .file)) _ (c .before .pre .0) refl)
+add-read-window c = omega (arith, window-within (now (c .before .args .file)) (c .before .pre .0) (c .before .args .position) (c .before .pre .1))
 
 sub-read-window : tie.Need-sub-read-window
 sub-read-window c = search needs

@@ -1,0 +1,20 @@
+-- The parent function that a table gives: a forest, whatever the table holds; and the parents that it holds, where none of them
+-- points behind.
+-- Assumes nothing.
+use Prim.Native.Nat.{ℕ, _≤_, _<_}
+use mathlib.Core.Path.{_≡_}
+use mathlib.Core.List.{List}
+use native.Mathlib.Omega.{arith}
+use lib.ListN.{length, getD}
+use Rattle.sequences.specs.Table.{Holds}
+use Rattle.interval_graph.specs.Forest.{Forest}
+use Rattle.forest.specs.Parents.{parentIn}
+
+pub table-forest : (parents : List ℕ) → Forest (parentIn parents)
+unfolding parentIn
+table-forest parents = record { parent-le = λ v. omega arith }
+
+-- A table that holds the parents of a forest gives that forest.
+pub held-parents : {parent : ℕ → ℕ} → Forest parent → (n : ℕ) (parents : List ℕ) → Holds parents parent n → (v : ℕ) → v < n → parentIn parents v ≡ parent v
+unfolding parentIn
+held-parents forest n parents held v h = omega (arith, held .at v h, forest .parent-le v)

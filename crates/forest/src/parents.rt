@@ -1,0 +1,20 @@
+// The parent of a position by its entry in the table, and how far a pass goes.
+ghost use mathlib.Core.Path.{_≡_};
+ghost use Prim.Native.Nat.{_≤_, _<_, min};
+ghost use lib.ListN.{length};
+ghost use Rattle.forest.specs.Parents.{parentIn};
+
+// The entry where it stands before its position; an entry that does not is read as that of a root.
+pub(crate) fn parent_at(parents: &[u16], position: usize) -> usize
+    requires { ⌜ position < length (now parents) ⌝ }
+    ensures { λ r. ⌜ r ≡ parentIn (now (parents .entry)) position ⌝ }
+    ensures { λ r. ⌜ r ≤ position ⌝ }
+{
+    smaller(parents[position] as usize, position)
+}
+
+pub(crate) fn smaller(first: usize, second: usize) -> usize
+    ensures { λ r. ⌜ r ≡ min first second ⌝ }
+{
+    if first < second { first } else { second }
+}

@@ -1,0 +1,159 @@
+-- Build: room for each table, what each pass leaves in an accepted plan's tables, and the answer after each test.
+-- Assumes nothing.
+use Prim.Native.Nat.{ℕ, _*_, _≤_, _<_}
+use mathlib.Core.Bool.{Bool, true, false, not, _&&_}
+use mathlib.Core.Path.{_≡_, sym, ap, _∙_}
+use mathlib.Core.List.{List}
+use lib.ListN.{getD}
+use lib.Dec.{leb}
+use borrow.Author.Tests.{leb-true, not-true, not-false}
+use Rattle.sequences.specs.Search.{count}
+use Rattle.sequences.specs.Table.{table, overwritten, Holds}
+use Rattle.sequences.proofs.Tests.{and-left, and-right}
+use Rattle.sequences.proofs.Search.{count-cong}
+use Rattle.sequences.proofs.Table.{table-cong}
+use Rattle.interval_graph.specs.Tree.{last, parent, rank, lastRank}
+use Rattle.interval_graph.specs.Numbers.{numbersOf}
+use Rattle.interval_graph.specs.Forest as Forest
+use Rattle.interval_graph.proofs.Parent.{tree}
+use Rattle.interval_graph.proofs.Agreement.{root-test-agrees, depth-agrees, component-agrees, rank-agrees}
+use Rattle.interval_graph.proofs.Last.{last-below}
+use Rattle.interval_graph.proofs.Bounds.{numbers-small}
+use Rattle.wire.specs.declared.Refusal.{Refusal}
+use Rattle.wire.specs.Question.{Question, question}
+use Rattle.plan.specs.declared.questions.Validation.{Validation}
+use Rattle.plan.specs.File.{planNumber, windowCount}
+use Rattle.plan.specs.Overlap.{overlaps}
+use Rattle.plan.specs.Validation.{validateOf}
+use Rattle.plan.specs.AcceptedWindows.{AcceptedWindows}
+use Rattle.plan.specs.declared.questions.Validation.the-variants as Validation
+use Rattle.plan.proofs.Calls.{plan-refused, one-more-no, one-more-yes}
+use Rattle.plan.proofs.Counted.{windows-few, windows-order, validated-windows}
+use Rattle.tag.specs.Fields.{fieldCount, tagLength, fieldLimit}
+use Rattle.tag.specs.TagFile.{tagFile}
+use Rattle.tag.proofs.Fields.{limit-within}
+use Rattle.tag.proofs.TagFile.{tagFile-cong}
+use Rattle.forest.specs.Parents.{parentIn, lookedUp}
+use Rattle.forest.proofs.Parented.{held-parents}
+use Rattle.tree.specs.declared.answers.BuildAnswer.the-variants.{Built, Refused}
+use Rattle.tree.specs.Tables.{lastOf, parentOf, componentOf, depthOf, rankOf, lastRankOf, componentCount, numbersAt}
+use Rattle.tree.specs.Build.{tablesFit, buildQuestions, buildAnswerOf}
+use Rattle.tree.specs.Tagging.{numbersIn, Numbered}
+use Rattle.tree.specs.Passes.{Rooms}
+
+-- What a test that was negated said of the definition that it was answered by.
+pub test-held : (answer fit : Bool) → answer ≡ fit → not answer ≡ false → fit ≡ true
+test-held answer fit same t = sym same ∙ not-false answer t
+
+pub test-lacking : (answer fit : Bool) → answer ≡ fit → not answer ≡ true → fit ≡ false
+test-lacking answer fit same t = sym same ∙ not-true answer t
+
+-- Room for each of the five tables, and for the tag file.
+pub tables-rooms : (windows parents components depths ranks lastRanks tags : ℕ) → tablesFit windows parents components depths ranks lastRanks tags ≡ true → Rooms windows parents components depths ranks lastRanks × (10 * windows ≤ tags)
+unfolding tablesFit tagLength fieldCount
+tables-rooms n p c d r l t h =
+    let t5 = leb n l && leb (10 * n) t in
+    let t4 = leb n r && t5 in
+    let t3 = leb n d && t4 in
+    let t2 = leb n c && t3 in
+    let h2 = and-right (leb n p) t2 h in
+    let h3 = and-right (leb n c) t3 h2 in
+    let h4 = and-right (leb n d) t4 h3 in
+    let h5 = and-right (leb n r) t5 h4 in (
+      record {
+        parents-room = leb-true n p (and-left (leb n p) t2 h);
+        components-room = leb-true n c (and-left (leb n c) t3 h2);
+        depths-room = leb-true n d (and-left (leb n d) t4 h3);
+        ranks-room = leb-true n r (and-left (leb n r) t5 h4);
+        last-ranks-room = leb-true n l (and-left (leb n l) (leb (10 * n) t) h5);
+      },
+      leb-true (10 * n) t (and-right (leb n l) (leb (10 * n) t) h5),
+    )
+
+-- The passes over a table that holds an accepted plan's parents fill its tables. `k` is how many entries they go through.
+module _ {file : List ℕ} {windows : ℕ} (plan : AcceptedWindows file windows) {parents : List ℕ} (held : Holds parents (parentOf file) windows) (k : ℕ) where
+  same : (v : ℕ) → v < windows → parentIn parents v ≡ parent (overlaps file) v
+  unfolding parentOf
+  same = held-parents (tree (overlaps file)) windows parents held
+
+  pub roots-counted : (r : ℕ) → r ≡ count (Forest.isRoot (parentIn parents)) k → k ≡ windows → r ≡ componentCount file
+  unfolding componentCount
+  roots-counted r e all =
+      e ∙ rw (all, ← plan .counted) (count-cong _ _ windows (root-test-agrees (tree (overlaps file)) same))
+
+  module _ (before now : List ℕ) where
+    pub components-filled : now ≡ overwritten before (table (Forest.component (parentIn parents)) k) → k ≡ windows → now ≡ overwritten before (table (componentOf file) windows)
+    unfolding componentOf
+    components-filled e all =
+        e ∙ ap (overwritten before) (rw all (table-cong _ _ windows (component-agrees (tree (overlaps file)) same)))
+
+    pub depths-filled : now ≡ overwritten before (table (Forest.depth (parentIn parents)) k) → k ≡ windows → now ≡ overwritten before (table (depthOf file) windows)
+    unfolding depthOf
+    depths-filled e all =
+        e ∙ ap (overwritten before) (rw all (table-cong _ _ windows (depth-agrees (tree (overlaps file)) same)))
+
+    pub ranks-filled : now ≡ overwritten before (table (Forest.rank k (parentIn parents)) k) → k ≡ windows → now ≡ overwritten before (table (rankOf file) windows)
+    unfolding rankOf
+    ranks-filled e all =
+        e
+        ∙ ap (overwritten before)
+        (rw all
+        (table-cong _ _ windows
+        (λ v h. rank-agrees (tree (overlaps file)) same v h ∙ ap (λ n. rank n (overlaps file) v) (plan .counted))))
+
+-- Ranks looked up by lasts are the ranks of the lasts.
+module _ {file : List ℕ} {windows : ℕ} (plan : AcceptedWindows file windows) {lasts ranks : List ℕ} (lasting : Holds lasts (lastOf file) windows) (ranking : Holds ranks (rankOf file) windows) where
+  last-rank-found : (v : ℕ) → v < windows → getD ranks (getD lasts v 0) 0 ≡ lastRankOf file v
+  unfolding lastOf rankOf lastRankOf lastRank
+  last-rank-found v h =
+      let within : last (windowCount file) (overlaps file) v < windows = rw (← plan .counted) (last-below (windows-order plan) v h) in
+      rw (lasting .at v h) (ranking .at _ within)
+
+  pub last-ranks-filled : (k : ℕ) (before now : List ℕ) → now ≡ overwritten before (table (lookedUp ranks lasts) k) → k ≡ windows → now ≡ overwritten before (table (lastRankOf file) windows)
+  last-ranks-filled k before now e all =
+      e ∙ ap (overwritten before) (rw all (table-cong _ _ windows last-rank-found))
+
+-- The four tables that tags are made of hold the numbers of the windows, and none is too great.
+module _ {file : List ℕ} {windows : ℕ} (plan : AcceptedWindows file windows) (number : ℕ) (named : number ≡ planNumber file) {components depths ranks lastRanks : List ℕ} (c : Holds components (componentOf file) windows) (d : Holds depths (depthOf file) windows) (r : Holds ranks (rankOf file) windows) (l : Holds lastRanks (lastRankOf file) windows) where
+  numbers-held : (v : ℕ) → v < windows → numbersIn number components depths ranks lastRanks v ≡ numbersAt file v
+  unfolding numbersAt numbersOf componentOf depthOf rankOf lastRankOf
+  numbers-held v h = rw (named, c .at v h, d .at v h, r .at v h, l .at v h)
+
+  pub numbers-filled : Numbered windows number components depths ranks lastRanks
+  unfolding numbersAt numbersOf fieldLimit
+  numbers-filled =
+      record {
+        components-long = c .long;
+        depths-long = d .long;
+        ranks-long = r .long;
+        last-ranks-long = l .long;
+        fit = λ v h.
+            let small = numbers-small (windows-order plan) v (windows-few plan) h in
+            rw (numbers-held v h, ← plan .counted)
+            (limit-within _ (record { component = small .0; depth = small .1; rank = small .2; last = small .3 }));
+      }
+
+  pub tags-filled : tagFile (numbersIn number components depths ranks lastRanks) windows ≡ tagFile (numbersAt file) windows
+  tags-filled = tagFile-cong _ _ windows numbers-held
+
+-- The answers.
+module _ (file : List ℕ) (p c d r l t : ℕ) (answer : Validation) (validated : answer ≡ validateOf file) where
+  pub build-refused : (refusal : Refusal) → answer ≡ Validation.Refused refusal → Refused refusal ≡ buildAnswerOf file p c d r l t
+  unfolding buildAnswerOf buildQuestions
+  build-refused = plan-refused file _ Refused _ answer validated
+
+  module _ (plan windows : ℕ) (e : answer ≡ Validation.Accepted plan windows) where
+    room : Question
+    room = question 8 0 0 (tablesFit windows p c d r l t)
+
+    pub build-short : tablesFit windows p c d r l t ≡ false → Refused (record { number = 8; input = 0; position = 0 }) ≡ buildAnswerOf file p c d r l t
+    unfolding buildAnswerOf buildQuestions question room
+    build-short short =
+        rw (← validated-windows file answer validated plan windows e .counted)
+        (one-more-no file room Refused _ answer validated plan windows e short)
+
+    pub build-built : (number count : ℕ) → number ≡ planNumber file → tablesFit windows p c d r l t ≡ true → count ≡ componentCount file → Built number windows count ≡ buildAnswerOf file p c d r l t
+    unfolding buildAnswerOf buildQuestions question room
+    build-built number count named fits counted =
+        rw (counted, named, ← validated-windows file answer validated plan windows e .counted)
+        (one-more-yes file room Refused _ answer validated plan windows e fits)

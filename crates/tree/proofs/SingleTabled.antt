@@ -1,0 +1,89 @@
+-- One table of a plan by itself: the answer after each test of the call; and that a table of 2,048 entries holds any plan's, so that
+-- the call then answers as the validation does: its refusal, or a table of the plan's windows.
+-- Vocabulary: Tabled.
+-- Assumes nothing.
+use Prim.Native.Nat.{ℕ, _≤_, _<_}
+use mathlib.Core.Path.{_≡_, refl, sym, _∙_}
+use mathlib.Core.List.{List}
+use native.Mathlib.Omega.{arith}
+use lib.ListN.{length}
+use borrow.Author.Tests.{le-leb, lt-leb}
+use Rattle.sequences.specs.Table.{Holds}
+use Rattle.sequences.proofs.Table.{overwritten-holds}
+use Rattle.wire.specs.declared.Refusal.{Refusal}
+use Rattle.wire.specs.Question.{question, firstNo}
+use Rattle.plan.specs.declared.questions.Validation.{Validation}
+use Rattle.plan.specs.File.{windowCount}
+use Rattle.plan.specs.Validation.{validateOf}
+use Rattle.plan.specs.AcceptedWindows.{AcceptedWindows}
+use Rattle.plan.specs.declared.questions.Validation.the-variants as Validation
+use Rattle.plan.proofs.Calls.{plan-first, plan-refused, one-more-no, one-more-yes}
+use Rattle.plan.proofs.Counted.{windows-few, validated-windows}
+use Rattle.tree.specs.declared.answers.TableAnswer.{TableAnswer}
+use Rattle.tree.specs.declared.answers.TableAnswer.the-variants.{Filled, Refused}
+use Rattle.tree.specs.SingleTable.{roomQuestion, tableAnswerOf, afterTable}
+
+module _ (file : List ℕ) (room : ℕ) (answer : Validation) (validated : answer ≡ validateOf file) where
+  pub table-refused : (refusal : Refusal) → answer ≡ Validation.Refused refusal → Refused refusal ≡ tableAnswerOf file room
+  unfolding tableAnswerOf
+  table-refused = plan-refused file _ Refused _ answer validated
+
+  module _ (plan windows : ℕ) (e : answer ≡ Validation.Accepted plan windows) where
+    pub table-short : room < windows → Refused (record { number = 8; input = 0; position = 0 }) ≡ tableAnswerOf file room
+    unfolding tableAnswerOf roomQuestion question
+    table-short short =
+        rw (← validated-windows file answer validated plan windows e .counted)
+        (one-more-no file (roomQuestion windows room) Refused _ answer validated plan windows e (lt-leb windows room short))
+
+    pub table-filled : windows ≤ room → Filled windows ≡ tableAnswerOf file room
+    unfolding tableAnswerOf roomQuestion question
+    table-filled fits =
+        rw (← validated-windows file answer validated plan windows e .counted)
+        (one-more-yes file (roomQuestion windows room) Refused _ answer validated plan windows e (le-leb windows room fits))
+
+-- The validation's answer as that of a table that holds any plan's.
+abbrev validated : Validation → TableAnswer
+validated (Validation.Accepted plan windows) = Filled windows
+validated (Validation.Refused refusal) = Refused refusal
+
+module _ (file : List ℕ) (room : ℕ) (enough : 2048 ≤ room) where
+  by-validation : (v : Validation) → v ≡ validateOf file → tableAnswerOf file room ≡ validated v
+  unfolding tableAnswerOf roomQuestion question firstNo
+  by-validation (Validation.Accepted plan windows) e =
+      let p = validated-windows file (Validation.Accepted plan windows) e plan windows refl in
+      plan-first file _ Refused _
+      ∙ rw (← e, le-leb (windowCount file) room (omega (arith, windows-few p, p .counted)), p .counted)
+  by-validation (Validation.Refused refusal) e = plan-first file _ Refused _ ∙ rw (← e)
+
+  from-validation : (v : Validation) (refusal : Refusal) → Refused refusal ≡ validated v → v ≡ Validation.Refused refusal
+  from-validation (Validation.Accepted plan windows) refusal e =
+      let z : _≡_ {A = ℕ} 0 1 = cc in absurd (omega arith)
+  from-validation (Validation.Refused other) refusal e = cc
+
+  -- A refusal is the validation's.
+  pub table-refuses : (answer : TableAnswer) (refusal : Refusal) → answer ≡ tableAnswerOf file room → answer ≡ Refused refusal → validateOf file ≡ Validation.Refused refusal
+  table-refuses answer refusal e f =
+      from-validation (validateOf file) refusal (sym f ∙ (e ∙ by-validation (validateOf file) refl))
+
+  accepts : (v : Validation) (windows : ℕ) → v ≡ validateOf file → Filled windows ≡ validated v → AcceptedWindows file windows
+  accepts (Validation.Accepted plan windows′) windows e f =
+      let same : windows ≡ windows′ = cc in
+      rw same (validated-windows file (Validation.Accepted plan windows′) e plan windows′ refl)
+  accepts (Validation.Refused refusal) windows e f = let z : _≡_ {A = ℕ} 0 1 = cc in absurd (omega arith)
+
+  -- A table that is filled is that of an accepted plan, with an entry for each window.
+  table-fills : (answer : TableAnswer) (windows : ℕ) → answer ≡ tableAnswerOf file room → answer ≡ Filled windows → AcceptedWindows file windows
+  table-fills answer windows e f =
+      accepts (validateOf file) windows refl (sym f ∙ (e ∙ by-validation (validateOf file) refl))
+
+-- An accepted plan's file, how many windows it has, and one of its tables.
+pub record Tabled (file : List ℕ) (windows : ℕ) (f : ℕ → ℕ) (entries : List ℕ) : Type 0 where
+  pub plan : AcceptedWindows file windows
+  pub held : Holds entries f windows
+
+-- That is what such a call leaves where it refuses nothing.
+pub tabled : (file : List ℕ) (f : ℕ → ℕ) (before after : List ℕ) (answer : TableAnswer) (windows : ℕ) → 2048 ≤ length before → answer ≡ tableAnswerOf file (length before) → answer ≡ Filled windows → after ≡ afterTable answer f before → Tabled file windows f after
+unfolding afterTable
+tabled file f before after answer windows enough e filled w =
+    let fills = table-fills file (length before) enough answer windows e filled in
+    record { plan = fills; held = overwritten-holds f windows before after (omega (arith, windows-few fills)) (rw filled at w) }
