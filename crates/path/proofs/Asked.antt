@@ -16,7 +16,7 @@ use Rattle.plan.specs.declared.questions.Validation.{Validation}
 use Rattle.plan.specs.declared.questions.Validation.the-variants as Validation
 use Rattle.plan.specs.File.{windowCount}
 use Rattle.plan.specs.Overlap.{overlaps}
-use Rattle.plan.specs.Validation.{validateOf, AcceptedPlan}
+use Rattle.plan.specs.Validation.{validateAnswerOf, AcceptedPlan}
 use Rattle.plan.proofs.Calls.{plan-first}
 use Rattle.plan.proofs.SecondFile.{ofSecond, plan-second}
 use Rattle.tree.specs.Tables.{lastOf}
@@ -33,7 +33,7 @@ use Rattle.path.proofs.Handed.{ordered}
 use Rattle.path.proofs.Alike.{every-cong, lasts-pairs}
 
 module _ (file : List ℕ) (first second room : ℕ) where
-  pub chain-refused : (refusal : Refusal) → validateOf file ≡ Validation.Refused refusal → ChainAnswer.Refused refusal ≡ chainAnswerOf file first second room
+  pub chain-refused : (refusal : Refusal) → validateAnswerOf file ≡ Validation.Refused refusal → ChainAnswer.Refused refusal ≡ chainAnswerOf file first second room
   unfolding chainAnswerOf
   chain-refused refusal e = sym (plan-first file _ ChainAnswer.Refused _ ∙ rw e)
 
@@ -66,13 +66,13 @@ module _ (file : List ℕ) (first second room : ℕ) where
       chain-asked-turned e w = chain-asked (rw between-symmetric at e) (rw between-symmetric at w)
 
 module _ (first second : List ℕ) where
-  pub same-refused : (refusal : Refusal) → validateOf first ≡ Validation.Refused refusal → SameAnswer.Refused refusal ≡ sameAnswerOf first second
+  pub same-refused : (refusal : Refusal) → validateAnswerOf first ≡ Validation.Refused refusal → SameAnswer.Refused refusal ≡ sameAnswerOf first second
   unfolding sameAnswerOf
   same-refused refusal e = sym (plan-first first _ SameAnswer.Refused _ ∙ rw e)
 
   module _ (ok : AcceptedPlan first) where
     -- The second file's refusal has input 1.
-    pub same-refused-second : (refusal : Refusal) → validateOf second ≡ Validation.Refused refusal → SameAnswer.Refused (ofSecond refusal) ≡ sameAnswerOf first second
+    pub same-refused-second : (refusal : Refusal) → validateAnswerOf second ≡ Validation.Refused refusal → SameAnswer.Refused (ofSecond refusal) ≡ sameAnswerOf first second
     unfolding sameAnswerOf
     same-refused-second refusal e =
         sym (plan-first first _ SameAnswer.Refused _ ∙ rw ok (plan-second SameAnswer.Refused second _ ∙ rw e))

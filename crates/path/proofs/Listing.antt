@@ -18,7 +18,7 @@ use Rattle.plan.specs.declared.questions.Validation.{Validation}
 use Rattle.plan.specs.declared.questions.Validation.the-variants as Validation
 use Rattle.plan.specs.File.{windowCount}
 use Rattle.plan.specs.Overlap.{overlaps}
-use Rattle.plan.specs.Validation.{validateOf}
+use Rattle.plan.specs.Validation.{validateAnswerOf}
 use Rattle.plan.proofs.Calls.{plan-first, accepted-numbers}
 use Rattle.path.specs.declared.answers.NeighboursAnswer.the-variants.{Neighbours, Refused}
 use Rattle.path.specs.Questions.{positionQuestion, roomQuestion}
@@ -100,7 +100,7 @@ module _ (file : List ℕ) (windows at : ℕ) (named : windows ≡ windowCount f
   neighbours-few = rw (← listing-neighbours) (passing-few (overlaps file at) 0 windows)
 
 -- The answers.
-module _ (file : List ℕ) (at room : ℕ) (answer : Validation) (validated : answer ≡ validateOf file) where
+module _ (file : List ℕ) (at room : ℕ) (answer : Validation) (validated : answer ≡ validateAnswerOf file) where
   pub neighbours-refused : (refusal : Refusal) → answer ≡ Validation.Refused refusal → Refused refusal ≡ neighboursAnswerOf file at room
   unfolding neighboursAnswerOf
   neighbours-refused refusal e = sym (plan-first file _ Refused _ ∙ rw (← validated, e))

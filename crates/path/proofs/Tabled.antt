@@ -15,14 +15,14 @@ use Rattle.wire.specs.Question.{question, firstNo}
 use Rattle.plan.specs.declared.questions.Validation.{Validation}
 use Rattle.plan.specs.declared.questions.Validation.the-variants as Validation
 use Rattle.plan.specs.File.{windowCount}
-use Rattle.plan.specs.Validation.{validateOf, AcceptedPlan}
+use Rattle.plan.specs.Validation.{validateAnswerOf, AcceptedPlan}
 use Rattle.plan.proofs.Accepted.{accepted-sound}
 use Rattle.plan.proofs.Calls.{plan-first, accepted-numbers, accepted-plan}
 use Rattle.tree.specs.declared.answers.TableAnswer.{TableAnswer}
 use Rattle.tree.specs.declared.answers.TableAnswer.the-variants.{Filled, Refused}
 use Rattle.tree.specs.Tables.{parentOf}
 use Rattle.tree.specs.Passes.{Parented}
-use Rattle.tree.specs.SingleTable.{roomQuestion, tableOf, afterTable}
+use Rattle.tree.specs.SingleTable.{roomQuestion, tableAnswerOf, afterTable}
 
 -- The validation's answer as that of a table that holds any plan's.
 abbrev validated : Validation → TableAnswer
@@ -30,8 +30,8 @@ validated (Validation.Accepted plan windows) = Filled windows
 validated (Validation.Refused refusal) = Refused refusal
 
 module _ (file : List ℕ) (room : ℕ) (enough : 2048 ≤ room) where
-  by-validation : (v : Validation) → v ≡ validateOf file → tableOf file room ≡ validated v
-  unfolding tableOf roomQuestion question firstNo
+  by-validation : (v : Validation) → v ≡ validateAnswerOf file → tableAnswerOf file room ≡ validated v
+  unfolding tableAnswerOf roomQuestion question firstNo
   by-validation (Validation.Accepted plan windows) e =
       let ok = accepted-plan file plan windows e in
       let named = accepted-numbers file plan windows e .1 in
@@ -45,19 +45,19 @@ module _ (file : List ℕ) (room : ℕ) (enough : 2048 ≤ room) where
   from-validation (Validation.Refused other) refusal e = cc
 
   -- A refusal is the validation's.
-  pub table-refuses : (answer : TableAnswer) (refusal : Refusal) → answer ≡ tableOf file room → answer ≡ Refused refusal → validateOf file ≡ Validation.Refused refusal
+  pub table-refuses : (answer : TableAnswer) (refusal : Refusal) → answer ≡ tableAnswerOf file room → answer ≡ Refused refusal → validateAnswerOf file ≡ Validation.Refused refusal
   table-refuses answer refusal e f =
-      from-validation (validateOf file) refusal (sym f ∙ (e ∙ by-validation (validateOf file) refl))
+      from-validation (validateAnswerOf file) refusal (sym f ∙ (e ∙ by-validation (validateAnswerOf file) refl))
 
-  accepts : (v : Validation) (windows : ℕ) → v ≡ validateOf file → Filled windows ≡ validated v → AcceptedPlan file × (windows ≡ windowCount file)
+  accepts : (v : Validation) (windows : ℕ) → v ≡ validateAnswerOf file → Filled windows ≡ validated v → AcceptedPlan file × (windows ≡ windowCount file)
   accepts (Validation.Accepted plan windows′) windows e f =
       (accepted-plan file plan windows′ e, cc (accepted-numbers file plan windows′ e .1))
   accepts (Validation.Refused refusal) windows e f = let z : _≡_ {A = ℕ} 0 1 = cc in absurd (omega arith)
 
   -- A table that is filled is that of an accepted plan, with an entry for each window.
-  table-fills : (answer : TableAnswer) (windows : ℕ) → answer ≡ tableOf file room → answer ≡ Filled windows → AcceptedPlan file × (windows ≡ windowCount file)
+  table-fills : (answer : TableAnswer) (windows : ℕ) → answer ≡ tableAnswerOf file room → answer ≡ Filled windows → AcceptedPlan file × (windows ≡ windowCount file)
   table-fills answer windows e f =
-      accepts (validateOf file) windows refl (sym f ∙ (e ∙ by-validation (validateOf file) refl))
+      accepts (validateAnswerOf file) windows refl (sym f ∙ (e ∙ by-validation (validateAnswerOf file) refl))
 
 -- An accepted plan's file, how many windows it has, and one of its tables.
 pub record Tabled (file : List ℕ) (windows : ℕ) (f : ℕ → ℕ) (entries : List ℕ) : Type 0 where
@@ -66,7 +66,7 @@ pub record Tabled (file : List ℕ) (windows : ℕ) (f : ℕ → ℕ) (entries :
   pub held : Holds entries f windows
 
 -- That is what such a call leaves where it refuses nothing.
-pub tabled : (file : List ℕ) (f : ℕ → ℕ) (before after : List ℕ) (answer : TableAnswer) (windows : ℕ) → 2048 ≤ length before → answer ≡ tableOf file (length before) → answer ≡ Filled windows → after ≡ afterTable answer f before → Tabled file windows f after
+pub tabled : (file : List ℕ) (f : ℕ → ℕ) (before after : List ℕ) (answer : TableAnswer) (windows : ℕ) → 2048 ≤ length before → answer ≡ tableAnswerOf file (length before) → answer ≡ Filled windows → after ≡ afterTable answer f before → Tabled file windows f after
 unfolding afterTable
 tabled file f before after answer windows enough e filled w =
     let fills = table-fills file (length before) enough answer windows e filled in

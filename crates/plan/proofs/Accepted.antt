@@ -1,5 +1,5 @@
 -- What is known of an accepted plan: each of questions 1 to 6 is answered "yes", at every window. And the other way round.
--- Vocabulary: Sound, accepted-sound, sound-accepted, accepted-validated, validated-accepted, offsets-sorted, part-within, end-fits.
+-- Vocabulary: Sound, accepted-sound, sound-accepted, accepted-validated, validated-accepted, offsets-sorted.
 -- Assumes nothing.
 use Prim.Native.Nat.{ℕ, zero, suc, _+_, _-_, _≤_, _<_}
 use mathlib.Core.Bool.{Bool, true}
@@ -16,7 +16,7 @@ use Rattle.wire.proofs.Question.{all-first, first-all, all-member, all-append, 
 use Rattle.plan.specs.declared.windows.Window.{Window}
 use Rattle.plan.specs.declared.questions.Validation.{Validation}
 use Rattle.plan.specs.declared.questions.Validation.the-variants.{Accepted, Refused}
-use Rattle.plan.specs.File.{headerLength, windowLength, windowPlace, fileLength, planNumber, windowCount, windowAt, endOf}
+use Rattle.plan.specs.File.{headerLength, fileLength, planNumber, windowCount, windowAt, endOf}
 use Rattle.plan.specs.Validation.{greatestCount, greatestEnd, offsetBefore, windowQuestions, fileQuestions, planQuestions, AcceptedPlan, validateAnswerOf}
 use Rattle.plan.proofs.Validation.{windowsAsked}
 
@@ -75,11 +75,3 @@ pub offsets-sorted : (file : List ℕ) → Sound file → (u v : ℕ) → u ≤ 
 offsets-sorted file s u v le h =
     let e : u + (v - u) ≡ v = omega arith in
     rw e at (offsets-rise file s u (v - u) (omega arith))
-
--- The part of each window lies within the file.
-pub part-within : (file : List ℕ) → Sound file → (v : ℕ) → v < windowCount file → windowPlace v + windowLength ≤ length file
-part-within file s v h = omega (arith, s .whole)
-
--- An end fits 32 bits, so its sum does not overflow there.
-pub end-fits : (file : List ℕ) → Sound file → (v : ℕ) → v < windowCount file → endOf (windowAt file v) < 4294967296
-end-fits file s v h = omega (arith, s .early v h)

@@ -1,29 +1,32 @@
--- What is known of an accepted plan's file by the number of its windows, and that a validation hands it on.
+-- What is known of an accepted plan's file by the number of its windows, and that a validation hands it on; and where each of its
+-- windows lies, which whoever reads windows cites.
+-- Vocabulary: windows-few, windows-order, validated-windows, validated-plan, window-within, bound-fits, own-offset.
 -- Assumes nothing.
-use Prim.Native.Nat.{ℕ, _≤_, _<_}
+use Prim.Native.Nat.{ℕ, _+_, _≤_, _<_}
 use mathlib.Core.Path.{_≡_, sym, _∙_}
 use mathlib.Core.List.{List}
 use native.Mathlib.Omega.{arith}
 use Rattle.interval_graph.specs.Order.{IntervalOrder}
 use Rattle.plan.specs.declared.questions.Validation.{Validation}
 use Rattle.plan.specs.declared.questions.Validation.the-variants.{Accepted}
-use Rattle.plan.specs.File.{planNumber, windowCount}
-use Rattle.plan.specs.Overlap.{overlaps}
-use Rattle.plan.specs.Validation.{validateOf}
+use lib.ListN.{length}
+use Rattle.plan.specs.File.{windowLength, windowPlace, planNumber, windowCount, windowAt, endOf}
+use Rattle.plan.specs.Overlap.{overlaps, boundOf}
+use Rattle.plan.specs.Validation.{greatestCount, AcceptedPlan, validateAnswerOf}
 use Rattle.plan.specs.AcceptedWindows.{AcceptedWindows}
 use Rattle.plan.proofs.Accepted.{Sound, accepted-sound}
 use Rattle.plan.proofs.Overlap.{interval-order}
 use Rattle.plan.proofs.Calls.{accepted-numbers, accepted-plan}
 
 module _ {file : List ℕ} {windows : ℕ} (p : AcceptedWindows file windows) where
-  -- An accepted plan has at most 2,048 windows, so tables of that many entries hold them.
-  pub windows-few : windows ≤ 2048
+  -- An accepted plan has at most so many windows, so tables of that many entries hold them.
+  pub windows-few : windows ≤ greatestCount
   windows-few = omega (arith, p .counted, accepted-sound file (p .accepted) .few)
 
   pub windows-order : IntervalOrder windows (overlaps file)
   windows-order = rw (p .counted) (interval-order file (p .accepted))
 
-module _ (file : List ℕ) (answer : Validation) (validated : answer ≡ validateOf file) (plan windows : ℕ) (e : answer ≡ Accepted plan windows) where
+module _ (file : List ℕ) (answer : Validation) (validated : answer ≡ validateAnswerOf file) (plan windows : ℕ) (e : answer ≡ Accepted plan windows) where
   pub validated-windows : AcceptedWindows file windows
   validated-windows =
       record {
@@ -33,3 +36,19 @@ module _ (file : List ℕ) (answer : Validation) (validated : answer ≡ validat
 
   pub validated-plan : plan ≡ planNumber file
   validated-plan = accepted-numbers file plan windows (sym e ∙ validated) .0
+
+-- A window of an accepted plan.
+module _ (file : List ℕ) (ok : AcceptedPlan file) (v : ℕ) (h : v < windowCount file) where
+  -- Its part lies within the file.
+  pub window-within : (windowPlace v + windowLength ≤ length file) × (v < greatestCount)
+  window-within = (omega (arith, accepted-sound file ok .whole), omega (arith, accepted-sound file ok .few))
+
+  -- Its bound fits 32 bits,
+  pub bound-fits : boundOf (windowAt file v) < 4294967296
+  unfolding boundOf
+  bound-fits = omega (arith, accepted-sound file ok .early v h)
+
+  -- and it begins before it.
+  pub own-offset : windowAt file v .offset < boundOf (windowAt file v)
+  unfolding boundOf endOf
+  own-offset = omega (arith, accepted-sound file ok .long v h)

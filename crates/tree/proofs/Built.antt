@@ -2,11 +2,12 @@
 -- Assumes nothing.
 use Prim.Native.Nat.{ℕ, _*_, _≤_, _<_}
 use mathlib.Core.Bool.{Bool, true, false, not, _&&_}
-use mathlib.Core.Path.{_≡_, sym, ap, _∙_}
+use mathlib.Core.Path.{_≡_, refl, sym, ap, _∙_}
 use mathlib.Core.List.{List}
 use lib.ListN.{getD}
 use lib.Dec.{leb}
-use borrow.Author.Tests.{leb-true, not-true, not-false}
+use native.Mathlib.Omega.{arith}
+use borrow.Author.Tests.{leb-true, le-leb, not-true, not-false}
 use Rattle.sequences.specs.Search.{count}
 use Rattle.sequences.specs.Table.{table, overwritten, Holds}
 use Rattle.sequences.proofs.Tests.{and-left, and-right}
@@ -20,16 +21,16 @@ use Rattle.interval_graph.proofs.Agreement.{root-test-agrees, depth-agrees, com
 use Rattle.interval_graph.proofs.Last.{last-below}
 use Rattle.interval_graph.proofs.Bounds.{numbers-small}
 use Rattle.wire.specs.declared.Refusal.{Refusal}
-use Rattle.wire.specs.Question.{Question, question}
+use Rattle.wire.specs.Question.{Question, refusalBy, question, roomQuestion}
 use Rattle.plan.specs.declared.questions.Validation.{Validation}
 use Rattle.plan.specs.File.{planNumber, windowCount}
 use Rattle.plan.specs.Overlap.{overlaps}
-use Rattle.plan.specs.Validation.{validateOf}
+use Rattle.plan.specs.Validation.{greatestCount, validateAnswerOf}
 use Rattle.plan.specs.AcceptedWindows.{AcceptedWindows}
 use Rattle.plan.specs.declared.questions.Validation.the-variants as Validation
 use Rattle.plan.proofs.Calls.{plan-refused, one-more-no, one-more-yes}
 use Rattle.plan.proofs.Counted.{windows-few, windows-order, validated-windows}
-use Rattle.tag.specs.Fields.{fieldCount, tagLength, fieldLimit}
+use Rattle.tag.specs.Fields.{tagLength, fieldLimit}
 use Rattle.tag.specs.TagFile.{tagFile}
 use Rattle.tag.proofs.Fields.{limit-within}
 use Rattle.tag.proofs.TagFile.{tagFile-cong}
@@ -37,7 +38,7 @@ use Rattle.forest.specs.Parents.{parentIn, lookedUp}
 use Rattle.forest.proofs.Parented.{held-parents}
 use Rattle.tree.specs.declared.answers.BuildAnswer.the-variants.{Built, Refused}
 use Rattle.tree.specs.Tables.{lastOf, parentOf, componentOf, depthOf, rankOf, lastRankOf, componentCount, numbersAt}
-use Rattle.tree.specs.Build.{tablesFit, buildQuestions, buildAnswerOf}
+use Rattle.tree.specs.Build.{tablesFit, buildQuestions, buildAnswerOf, tagsQuestions, tagsAnswerOf}
 use Rattle.tree.specs.Tagging.{numbersIn, Numbered}
 use Rattle.tree.specs.Passes.{Rooms}
 
@@ -49,10 +50,10 @@ pub test-lacking : (answer fit : Bool) → answer ≡ fit → not answer ≡ tru
 test-lacking answer fit same t = sym same ∙ not-true answer t
 
 -- Room for each of the five tables, and for the tag file.
-pub tables-rooms : (windows parents components depths ranks lastRanks tags : ℕ) → tablesFit windows parents components depths ranks lastRanks tags ≡ true → Rooms windows parents components depths ranks lastRanks × (10 * windows ≤ tags)
-unfolding tablesFit tagLength fieldCount
+pub tables-rooms : (windows parents components depths ranks lastRanks tags : ℕ) → tablesFit windows parents components depths ranks lastRanks tags ≡ true → Rooms windows parents components depths ranks lastRanks × (tagLength * windows ≤ tags)
+unfolding tablesFit
 tables-rooms n p c d r l t h =
-    let t5 = leb n l && leb (10 * n) t in
+    let t5 = leb n l && leb (tagLength * n) t in
     let t4 = leb n r && t5 in
     let t3 = leb n d && t4 in
     let t2 = leb n c && t3 in
@@ -65,9 +66,9 @@ tables-rooms n p c d r l t h =
         components-room = leb-true n c (and-left (leb n c) t3 h2);
         depths-room = leb-true n d (and-left (leb n d) t4 h3);
         ranks-room = leb-true n r (and-left (leb n r) t5 h4);
-        last-ranks-room = leb-true n l (and-left (leb n l) (leb (10 * n) t) h5);
+        last-ranks-room = leb-true n l (and-left (leb n l) (leb (tagLength * n) t) h5);
       },
-      leb-true (10 * n) t (and-right (leb n l) (leb (10 * n) t) h5),
+      leb-true (tagLength * n) t (and-right (leb n l) (leb (tagLength * n) t) h5),
     )
 
 -- The passes over a table that holds an accepted plan's parents fill its tables. `k` is how many entries they go through.
@@ -120,7 +121,7 @@ module _ {file : List ℕ} {windows : ℕ} (plan : AcceptedWindows file windows)
   numbers-held v h = rw (named, c .at v h, d .at v h, r .at v h, l .at v h)
 
   pub numbers-filled : Numbered windows number components depths ranks lastRanks
-  unfolding numbersAt numbersOf fieldLimit
+  unfolding numbersAt numbersOf
   numbers-filled =
       record {
         components-long = c .long;
@@ -137,16 +138,16 @@ module _ {file : List ℕ} {windows : ℕ} (plan : AcceptedWindows file windows)
   tags-filled = tagFile-cong _ _ windows numbers-held
 
 -- The answers.
-module _ (file : List ℕ) (p c d r l t : ℕ) (answer : Validation) (validated : answer ≡ validateOf file) where
+module _ (file : List ℕ) (p c d r l t : ℕ) (answer : Validation) (validated : answer ≡ validateAnswerOf file) where
   pub build-refused : (refusal : Refusal) → answer ≡ Validation.Refused refusal → Refused refusal ≡ buildAnswerOf file p c d r l t
   unfolding buildAnswerOf buildQuestions
   build-refused = plan-refused file _ Refused _ answer validated
 
   module _ (plan windows : ℕ) (e : answer ≡ Validation.Accepted plan windows) where
     room : Question
-    room = question 8 0 0 (tablesFit windows p c d r l t)
+    room = question 8 (tablesFit windows p c d r l t)
 
-    pub build-short : tablesFit windows p c d r l t ≡ false → Refused (record { number = 8; input = 0; position = 0 }) ≡ buildAnswerOf file p c d r l t
+    pub build-short : tablesFit windows p c d r l t ≡ false → Refused (refusalBy 8) ≡ buildAnswerOf file p c d r l t
     unfolding buildAnswerOf buildQuestions question room
     build-short short =
         rw (← validated-windows file answer validated plan windows e .counted)
@@ -157,3 +158,27 @@ module _ (file : List ℕ) (p c d r l t : ℕ) (answer : Validation) (validated 
     build-built number count named fits counted =
         rw (counted, named, ← validated-windows file answer validated plan windows e .counted)
         (one-more-yes file room Refused _ answer validated plan windows e fits)
+
+-- Tables as long as any plan's leave the tag file's room to be asked for.
+tables-hold : (windows t : ℕ) → windows ≤ greatestCount → tablesFit windows greatestCount greatestCount greatestCount greatestCount greatestCount t ≡ leb (tagLength * windows) t
+unfolding tablesFit
+tables-hold windows t few = rw (le-leb windows greatestCount few)
+
+accepted-tags : (file : List ℕ) (t plan windows : ℕ) → Validation.Accepted plan windows ≡ validateAnswerOf file → buildAnswerOf file greatestCount greatestCount greatestCount greatestCount greatestCount t ≡ tagsAnswerOf file t
+unfolding buildAnswerOf buildQuestions tagsAnswerOf tagsQuestions roomQuestion
+accepted-tags file t plan windows e =
+    let p = validated-windows file (Validation.Accepted plan windows) e plan windows refl in
+    rw (tables-hold (windowCount file) t (omega (arith, p .counted, windows-few p)))
+
+refused-tags : (file : List ℕ) (t : ℕ) (refusal : Refusal) → Validation.Refused refusal ≡ validateAnswerOf file → buildAnswerOf file greatestCount greatestCount greatestCount greatestCount greatestCount t ≡ tagsAnswerOf file t
+unfolding tagsAnswerOf tagsQuestions
+refused-tags file t refusal e =
+    sym (build-refused file greatestCount greatestCount greatestCount greatestCount greatestCount t _ e refusal refl)
+    ∙ plan-refused file _ Refused _ _ e refusal refl
+
+pub tags-built : (file : List ℕ) (t : ℕ) → buildAnswerOf file greatestCount greatestCount greatestCount greatestCount greatestCount t ≡ tagsAnswerOf file t
+tags-built file t = by-validation (validateAnswerOf file) refl
+  where
+    by-validation : (v : Validation) → v ≡ validateAnswerOf file → buildAnswerOf file greatestCount greatestCount greatestCount greatestCount greatestCount t ≡ tagsAnswerOf file t
+    by-validation (Validation.Accepted plan windows) e = accepted-tags file t plan windows e
+    by-validation (Validation.Refused refusal) e = refused-tags file t refusal e

@@ -21,10 +21,10 @@ use Rattle.interval_graph.proofs.Depth.{depth-le}
 use Rattle.interval_graph.proofs.Monotone.{component-contiguous}
 use Rattle.interval_graph.proofs.Reach.{lastInComponent-window, lastInComponent-component, lastInComponent-greatest}
 use Rattle.wire.specs.declared.Refusal.{Refusal}
-use Rattle.wire.specs.Question.{question}
+use Rattle.wire.specs.Question.{refusalBy, question, positionQuestion}
 use Rattle.plan.specs.declared.questions.Validation.{Validation}
 use Rattle.plan.specs.Overlap.{overlaps}
-use Rattle.plan.specs.Validation.{validateOf}
+use Rattle.plan.specs.Validation.{greatestCount, validateAnswerOf}
 use Rattle.plan.specs.AcceptedWindows.{AcceptedWindows}
 use Rattle.plan.specs.declared.questions.Validation.the-variants as Validation
 use Rattle.plan.proofs.Calls.{plan-refused, one-more-no, one-more-yes}
@@ -85,25 +85,25 @@ module _ {file : List ℕ} {windows : ℕ} (plan : AcceptedWindows file windows)
   unfolding depthOf reach
   reach-depth = rw (add-one (getD depths last 0)) (ap suc (d .at last (s .high) ∙ ap (depth (overlaps file)) run-last))
 
-  pub reach-fits : getD depths last 0 < 2048
+  pub reach-fits : getD depths last 0 < greatestCount
   unfolding depthOf
   reach-fits = omega (arith, d .at last (s .high), depth-le (tree (overlaps file)) last, s .high, windows-few plan)
 
 -- The answers.
-module _ (file : List ℕ) (at : ℕ) (answer : Validation) (validated : answer ≡ validateOf file) where
+module _ (file : List ℕ) (at : ℕ) (answer : Validation) (validated : answer ≡ validateAnswerOf file) where
   pub reach-refused : (refusal : Refusal) → answer ≡ Validation.Refused refusal → Refused refusal ≡ reachAnswerOf file at
   unfolding reachAnswerOf reachQuestions
   reach-refused = plan-refused file _ Refused _ answer validated
 
   module _ (plan windows : ℕ) (e : answer ≡ Validation.Accepted plan windows) where
-    pub reach-beyond : windows ≤ at → Refused (record { number = 7; input = 0; position = 0 }) ≡ reachAnswerOf file at
-    unfolding reachAnswerOf reachQuestions question
+    pub reach-beyond : windows ≤ at → Refused (refusalBy 7) ≡ reachAnswerOf file at
+    unfolding reachAnswerOf reachQuestions positionQuestion question
     reach-beyond beyond =
         rw (← validated-windows file answer validated plan windows e .counted)
-        (one-more-no file (question 7 0 0 (ltb at windows)) Refused _ answer validated plan windows e (le-ltb at windows beyond))
+        (one-more-no file (positionQuestion at windows) Refused _ answer validated plan windows e (le-ltb at windows beyond))
 
     pub reach-found : (r : ℕ) → at < windows → r ≡ reach windows (overlaps file) at → Reach r ≡ reachAnswerOf file at
-    unfolding reachAnswerOf reachQuestions question
+    unfolding reachAnswerOf reachQuestions positionQuestion question
     reach-found r within found =
         rw (found, ← validated-windows file answer validated plan windows e .counted)
-        (one-more-yes file (question 7 0 0 (ltb at windows)) Refused _ answer validated plan windows e (lt-ltb at windows within))
+        (one-more-yes file (positionQuestion at windows) Refused _ answer validated plan windows e (lt-ltb at windows within))

@@ -11,32 +11,32 @@ use borrow.Author.Tests.{le-leb, lt-leb}
 use Rattle.sequences.specs.Table.{Holds}
 use Rattle.sequences.proofs.Table.{overwritten-holds}
 use Rattle.wire.specs.declared.Refusal.{Refusal}
-use Rattle.wire.specs.Question.{question, firstNo}
+use Rattle.wire.specs.Question.{refusalBy, question, roomQuestion, firstNo}
 use Rattle.plan.specs.declared.questions.Validation.{Validation}
 use Rattle.plan.specs.File.{windowCount}
-use Rattle.plan.specs.Validation.{validateOf}
+use Rattle.plan.specs.Validation.{greatestCount, validateAnswerOf}
 use Rattle.plan.specs.AcceptedWindows.{AcceptedWindows}
 use Rattle.plan.specs.declared.questions.Validation.the-variants as Validation
 use Rattle.plan.proofs.Calls.{plan-first, plan-refused, one-more-no, one-more-yes}
 use Rattle.plan.proofs.Counted.{windows-few, validated-windows}
 use Rattle.tree.specs.declared.answers.TableAnswer.{TableAnswer}
 use Rattle.tree.specs.declared.answers.TableAnswer.the-variants.{Filled, Refused}
-use Rattle.tree.specs.SingleTable.{roomQuestion, tableAnswerOf, afterTable}
+use Rattle.tree.specs.SingleTable.{tableQuestions, tableAnswerOf, afterTable}
 
-module _ (file : List ℕ) (room : ℕ) (answer : Validation) (validated : answer ≡ validateOf file) where
+module _ (file : List ℕ) (room : ℕ) (answer : Validation) (validated : answer ≡ validateAnswerOf file) where
   pub table-refused : (refusal : Refusal) → answer ≡ Validation.Refused refusal → Refused refusal ≡ tableAnswerOf file room
-  unfolding tableAnswerOf
+  unfolding tableAnswerOf tableQuestions
   table-refused = plan-refused file _ Refused _ answer validated
 
   module _ (plan windows : ℕ) (e : answer ≡ Validation.Accepted plan windows) where
-    pub table-short : room < windows → Refused (record { number = 8; input = 0; position = 0 }) ≡ tableAnswerOf file room
-    unfolding tableAnswerOf roomQuestion question
+    pub table-short : room < windows → Refused (refusalBy 8) ≡ tableAnswerOf file room
+    unfolding tableAnswerOf tableQuestions roomQuestion question
     table-short short =
         rw (← validated-windows file answer validated plan windows e .counted)
         (one-more-no file (roomQuestion windows room) Refused _ answer validated plan windows e (lt-leb windows room short))
 
     pub table-filled : windows ≤ room → Filled windows ≡ tableAnswerOf file room
-    unfolding tableAnswerOf roomQuestion question
+    unfolding tableAnswerOf tableQuestions roomQuestion question
     table-filled fits =
         rw (← validated-windows file answer validated plan windows e .counted)
         (one-more-yes file (roomQuestion windows room) Refused _ answer validated plan windows e (le-leb windows room fits))
@@ -46,9 +46,9 @@ abbrev validated : Validation → TableAnswer
 validated (Validation.Accepted plan windows) = Filled windows
 validated (Validation.Refused refusal) = Refused refusal
 
-module _ (file : List ℕ) (room : ℕ) (enough : 2048 ≤ room) where
-  by-validation : (v : Validation) → v ≡ validateOf file → tableAnswerOf file room ≡ validated v
-  unfolding tableAnswerOf roomQuestion question firstNo
+module _ (file : List ℕ) (room : ℕ) (enough : greatestCount ≤ room) where
+  by-validation : (v : Validation) → v ≡ validateAnswerOf file → tableAnswerOf file room ≡ validated v
+  unfolding tableAnswerOf tableQuestions roomQuestion question firstNo
   by-validation (Validation.Accepted plan windows) e =
       let p = validated-windows file (Validation.Accepted plan windows) e plan windows refl in
       plan-first file _ Refused _
@@ -61,11 +61,11 @@ module _ (file : List ℕ) (room : ℕ) (enough : 2048 ≤ room) where
   from-validation (Validation.Refused other) refusal e = cc
 
   -- A refusal is the validation's.
-  pub table-refuses : (answer : TableAnswer) (refusal : Refusal) → answer ≡ tableAnswerOf file room → answer ≡ Refused refusal → validateOf file ≡ Validation.Refused refusal
+  pub table-refuses : (answer : TableAnswer) (refusal : Refusal) → answer ≡ tableAnswerOf file room → answer ≡ Refused refusal → validateAnswerOf file ≡ Validation.Refused refusal
   table-refuses answer refusal e f =
-      from-validation (validateOf file) refusal (sym f ∙ (e ∙ by-validation (validateOf file) refl))
+      from-validation (validateAnswerOf file) refusal (sym f ∙ (e ∙ by-validation (validateAnswerOf file) refl))
 
-  accepts : (v : Validation) (windows : ℕ) → v ≡ validateOf file → Filled windows ≡ validated v → AcceptedWindows file windows
+  accepts : (v : Validation) (windows : ℕ) → v ≡ validateAnswerOf file → Filled windows ≡ validated v → AcceptedWindows file windows
   accepts (Validation.Accepted plan windows′) windows e f =
       let same : windows ≡ windows′ = cc in
       rw same (validated-windows file (Validation.Accepted plan windows′) e plan windows′ refl)
@@ -74,7 +74,7 @@ module _ (file : List ℕ) (room : ℕ) (enough : 2048 ≤ room) where
   -- A table that is filled is that of an accepted plan, with an entry for each window.
   table-fills : (answer : TableAnswer) (windows : ℕ) → answer ≡ tableAnswerOf file room → answer ≡ Filled windows → AcceptedWindows file windows
   table-fills answer windows e f =
-      accepts (validateOf file) windows refl (sym f ∙ (e ∙ by-validation (validateOf file) refl))
+      accepts (validateAnswerOf file) windows refl (sym f ∙ (e ∙ by-validation (validateAnswerOf file) refl))
 
 -- An accepted plan's file, how many windows it has, and one of its tables.
 pub record Tabled (file : List ℕ) (windows : ℕ) (f : ℕ → ℕ) (entries : List ℕ) : Type 0 where
@@ -82,7 +82,7 @@ pub record Tabled (file : List ℕ) (windows : ℕ) (f : ℕ → ℕ) (entries :
   pub held : Holds entries f windows
 
 -- That is what such a call leaves where it refuses nothing.
-pub tabled : (file : List ℕ) (f : ℕ → ℕ) (before after : List ℕ) (answer : TableAnswer) (windows : ℕ) → 2048 ≤ length before → answer ≡ tableAnswerOf file (length before) → answer ≡ Filled windows → after ≡ afterTable answer f before → Tabled file windows f after
+pub tabled : (file : List ℕ) (f : ℕ → ℕ) (before after : List ℕ) (answer : TableAnswer) (windows : ℕ) → greatestCount ≤ length before → answer ≡ tableAnswerOf file (length before) → answer ≡ Filled windows → after ≡ afterTable answer f before → Tabled file windows f after
 unfolding afterTable
 tabled file f before after answer windows enough e filled w =
     let fills = table-fills file (length before) enough answer windows e filled in

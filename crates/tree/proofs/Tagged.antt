@@ -4,19 +4,19 @@
 use Prim.Native.Nat.{ℕ, _+_, _-_, _*_, _≤_, _<_}
 use mathlib.Core.Bool.{true}
 use mathlib.Core.Path.{_≡_, refl, sym, ap, _∙_}
-use mathlib.Core.List.{List, _++_, append-nil}
+use mathlib.Core.List.{List, _++_, append-nil, flatMap}
 use native.Mathlib.Omega.{arith}
 use native.Mathlib.Numerals.{add-one}
 use lib.ListN.{length, take, drop, length-drop}
 use lib.Seq.{take-all, drop-length}
 use borrow.Rule.Slice.PartMut.{putMid, post-is}
-use Rattle.sequences.specs.Table.{overwritten}
+use Rattle.sequences.specs.Table.{table, overwritten}
 use Rattle.sequences.proofs.Table.{length-overwritten}
 use Rattle.interval_graph.specs.Numbers.{Numbers}
 use Rattle.tag.specs.declared.writer.WriteAnswer.{WriteAnswer}
 use Rattle.tag.specs.declared.writer.WriteAnswer.the-variants.{Written}
-use Rattle.tag.specs.Fields.{fieldCount, tagLength, tagBytes, withinLimit}
-use Rattle.tag.specs.Writing.{writeOf, afterWrite}
+use Rattle.tag.specs.Fields.{tagLength, tagBytes, withinLimit}
+use Rattle.tag.specs.Writing.{writeAnswerOf, afterWrite}
 use Rattle.tag.specs.TagFile.{tagFile}
 use Rattle.tag.proofs.Writing.{write-written}
 use Rattle.tag.proofs.TagFile.{length-tagFile, tagFile-turn}
@@ -35,7 +35,7 @@ pub record Tagged (numbers : ℕ → Numbers) (windows : ℕ) (tags₀ tags : Li
   pub long : length tags ≡ length tags₀
 
 pub tagged-start : (numbers : ℕ → Numbers) (windows : ℕ) (tags₀ : List ℕ) → Tagged numbers windows tags₀ tags₀ 0
-unfolding overwritten tagFile
+unfolding overwritten tagFile flatMap table
 tagged-start numbers windows tags₀ = record { within = omega arith; written = refl; long = refl }
 
 pub tagged-end : (numbers : ℕ → Numbers) (windows : ℕ) (tags₀ tags : List ℕ) (v : ℕ) → windows ≤ v → Tagged numbers windows tags₀ tags v → tags ≡ overwritten tags₀ (tagFile numbers windows)
@@ -43,28 +43,28 @@ tagged-end numbers windows tags₀ tags v done s = let e : v ≡ windows = omega
 
 -- A tag whose numbers fit is written at its place, to the front of what is left of the table.
 module _ (numbers : ℕ → Numbers) (windows v : ℕ) (h : v < windows) (fit : withinLimit (numbers v) ≡ true) where
-  pub tagged-turn : (tags₀ tags part : List ℕ) (answer : WriteAnswer) → 10 * windows ≤ length tags₀ → answer ≡ writeOf (numbers v) (take (length tags - 10 * v) (drop (10 * v) tags)) → part ≡ afterWrite answer (numbers v) (take (length tags - 10 * v) (drop (10 * v) tags)) → Tagged numbers windows tags₀ tags v → Tagged numbers windows tags₀ (putMid (10 * v) (length tags - 10 * v) tags part) (v + 1)
-  unfolding tagLength fieldCount afterWrite
+  pub tagged-turn : (tags₀ tags part : List ℕ) (answer : WriteAnswer) → tagLength * windows ≤ length tags₀ → answer ≡ writeAnswerOf (numbers v) (take (length tags - tagLength * v) (drop (tagLength * v) tags)) → part ≡ afterWrite answer (numbers v) (take (length tags - tagLength * v) (drop (tagLength * v) tags)) → Tagged numbers windows tags₀ tags v → Tagged numbers windows tags₀ (putMid (tagLength * v) (length tags - tagLength * v) tags part) (v + 1)
+  unfolding afterWrite
   tagged-turn tags₀ tags part answer room answered stored s =
       record { within = omega arith; written = whole; long = rw whole (length-overwritten tags₀ (tagFile numbers (v + 1)) (omega (arith, length-tagFile numbers (v + 1)))) }
     where
       rest : List ℕ
-      rest = drop (10 * v) tags
+      rest = drop (tagLength * v) tags
 
-      left : take (length tags - 10 * v) rest ≡ rest
-      left = part-to-end (10 * v) tags
+      left : take (length tags - tagLength * v) rest ≡ rest
+      left = part-to-end (tagLength * v) tags
 
       accepted : answer ≡ Written
       accepted =
           answered
-          ∙ (ap (writeOf (numbers v)) left
-          ∙ sym (write-written (numbers v) rest (omega (arith, length-drop (10 * v) tags, s .long)) fit))
+          ∙ (ap (writeAnswerOf (numbers v)) left
+          ∙ sym (write-written (numbers v) rest (omega (arith, length-drop (tagLength * v) tags, s .long)) fit))
 
       put : part ≡ overwritten rest (tagBytes (numbers v))
       put = stored ∙ (rw (accepted, left) refl)
 
-      whole : putMid (10 * v) (length tags - 10 * v) tags part ≡ overwritten tags₀ (tagFile numbers (v + 1))
+      whole : putMid (tagLength * v) (length tags - tagLength * v) tags part ≡ overwritten tags₀ (tagFile numbers (v + 1))
       whole =
-          put-to-end (10 * v) tags part (omega (arith, s .long))
-          ∙ (ap (λ (l : List ℕ). take (10 * v) tags ++ l) put
+          put-to-end (tagLength * v) tags part (omega (arith, s .long))
+          ∙ (ap (λ (l : List ℕ). take (tagLength * v) tags ++ l) put
           ∙ rw (s .written, add-one v) (tagFile-turn numbers v tags₀))

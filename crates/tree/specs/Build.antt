@@ -1,13 +1,13 @@
 -- Paper 01, "Calls on a plan": "Build writes five tables of two-byte numbers (parent, component, depth, rank, rank of the last)
 -- and the tag file."
--- Vocabulary: tablesFit, buildQuestions, buildAnswerOf, afterBuild, afterTags.
+-- Vocabulary: tablesFit, buildQuestions, buildAnswerOf, tagsQuestions, tagsAnswerOf, afterBuild, afterTags.
 use Prim.Native.Nat.{ℕ, _*_}
 use mathlib.Core.Bool.{Bool, _&&_}
 use mathlib.Core.List.{List, [], _∷_, _++_}
 use lib.Dec.{leb}
 use Rattle.sequences.specs.Table.{table, overwritten}
 use Rattle.interval_graph.specs.Numbers.{Numbers}
-use Rattle.wire.specs.Question.{Question, question, firstNo}
+use Rattle.wire.specs.Question.{Question, question, roomQuestion, firstNo}
 use Rattle.plan.specs.File.{planNumber, windowCount}
 use Rattle.plan.specs.Validation.{planQuestions}
 use Rattle.tag.specs.Fields.{tagLength}
@@ -30,10 +30,18 @@ tablesFit windows parents components depths ranks lastRanks tags =
 module _ (file : List ℕ) (parents components depths ranks lastRanks tags : ℕ) where
   unfoldable pub buildQuestions : List Question
   buildQuestions =
-      planQuestions 0 file ++ (question 8 0 0 (tablesFit (windowCount file) parents components depths ranks lastRanks tags) ∷ [])
+      planQuestions file ++ (question 8 (tablesFit (windowCount file) parents components depths ranks lastRanks tags) ∷ [])
 
   unfoldable pub buildAnswerOf : BuildAnswer
   buildAnswerOf = firstNo buildQuestions Refused (Built (planNumber file) (windowCount file) (componentCount file))
+
+-- The same for callers who want the tag file alone: 8 of "10 × n bytes".
+module _ (file : List ℕ) (room : ℕ) where
+  unfoldable pub tagsQuestions : List Question
+  tagsQuestions = planQuestions file ++ (roomQuestion (tagLength * windowCount file) room ∷ [])
+
+  unfoldable pub tagsAnswerOf : BuildAnswer
+  tagsAnswerOf = firstNo tagsQuestions Refused (Built (planNumber file) (windowCount file) (componentCount file))
 
 -- A table afterwards: "what lies past the written entries stays", and a refusal alters nothing.
 unfoldable pub afterBuild : BuildAnswer → (ℕ → ℕ) → List ℕ → List ℕ

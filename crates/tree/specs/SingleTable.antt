@@ -2,21 +2,19 @@
 -- Vocabulary: tableQuestions, tableAnswerOf, afterTable.
 use Prim.Native.Nat.{ℕ}
 use mathlib.Core.List.{List, [], _∷_, _++_}
-use lib.Dec.{leb}
 use Rattle.sequences.specs.Table.{table, overwritten}
-use Rattle.wire.specs.Question.{Question, question, firstNo}
+use Rattle.wire.specs.Question.{Question, roomQuestion, firstNo}
 use Rattle.plan.specs.File.{windowCount}
 use Rattle.plan.specs.Validation.{planQuestions}
 use Rattle.tree.specs.declared.answers.TableAnswer.{TableAnswer}
 use Rattle.tree.specs.declared.answers.TableAnswer.the-variants.{Filled, Refused}
 
--- "8. Does each table hold what is to be written (n entries …)?"
-unfoldable pub roomQuestion : (windows room : ℕ) → Question
-roomQuestion windows room = question 8 0 0 (leb windows room)
+-- 8 of "n entries".
+unfoldable pub tableQuestions : List ℕ → (room : ℕ) → List Question
+tableQuestions file room = planQuestions file ++ (roomQuestion (windowCount file) room ∷ [])
 
-unfoldable pub tableAnswerOf : List ℕ → ℕ → TableAnswer
-tableAnswerOf file room =
-    firstNo (planQuestions 0 file ++ (roomQuestion (windowCount file) room ∷ [])) Refused (Filled (windowCount file))
+unfoldable pub tableAnswerOf : List ℕ → (room : ℕ) → TableAnswer
+tableAnswerOf file room = firstNo (tableQuestions file room) Refused (Filled (windowCount file))
 
 -- The table afterwards: its first n entries written, or all of it as it was.
 unfoldable pub afterTable : TableAnswer → (ℕ → ℕ) → List ℕ → List ℕ

@@ -1,6 +1,5 @@
 // What the calls of this crate answer.
 use wire::Refusal;
-ghost use mathlib.Core.Path.{_≡_};
 
 // One table filled from a plan.
 pub enum TableAnswer {
@@ -22,15 +21,4 @@ pub enum BuildAnswer {
 pub enum ReachAnswer {
     Reach(u16),
     Refused(Refusal),
-}
-
-// The refusal of a question that is not about one window.
-pub(crate) fn refusal(number: u8) -> Refusal
-    ensures { λ r. ⌜ r ≡ record { number = number; input = 0; position = 0 } ⌝ }
-{
-    Refusal {
-        number,
-        input: 0,
-        position: 0,
-    }
 }

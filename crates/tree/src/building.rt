@@ -1,19 +1,21 @@
 // Build: validation, room, and then the passes, one after the other.
 use crate::answers::BuildAnswer;
-use crate::answers::refusal;
 use crate::lasts::fill_lasts;
 use crate::parents::find_parents;
 use crate::tagging::write_tags;
+use plan::GREATEST_COUNT;
 use plan::Validation;
 use tag::Tag;
+use wire::Refusal;
 ghost use mathlib.Core.Path.{_≡_};
 ghost use Prim.Native.Nat.{_≤_};
 ghost use lib.ListN.{length};
 ghost use Rattle.sequences.specs.Table.{table, overwritten};
+ghost use Rattle.plan.specs.Validation.{greatestCount};
 ghost use Rattle.plan.specs.AcceptedWindows.{AcceptedWindows};
 ghost use Rattle.tree.specs.Tables.{parentOf, componentOf, depthOf, rankOf, lastRankOf, componentCount, numbersAt};
 ghost use Rattle.tree.specs.Passes.{Rooms};
-ghost use Rattle.tree.specs.Build.{tablesFit, buildAnswerOf, afterBuild, afterTags};
+ghost use Rattle.tree.specs.Build.{tablesFit, buildAnswerOf, tagsAnswerOf, afterBuild, afterTags};
 
 // Whether tables of so many entries, and a tag file of so many bytes, hold what is to be written.
 fn tables_fit(
@@ -25,7 +27,7 @@ fn tables_fit(
     last_ranks: usize,
     tags: usize,
 ) -> bool
-    requires { ⌜ windows ≤ 2048 ⌝ }
+    requires { ⌜ windows ≤ greatestCount ⌝ }
     ensures { λ r. ⌜ r ≡ tablesFit windows parents components depths ranks «last_ranks» tags ⌝ }
 {
     if parents < windows {
@@ -65,7 +67,7 @@ fn fill_tables(
     ensures { λ _. ⌜ now (ranks .exit) ≡ overwritten (now (ranks .entry)) (table (rankOf (now (file .entry))) windows) ⌝ }
     ensures { λ _. ⌜ now («last_ranks» .exit) ≡ overwritten (now («last_ranks» .entry)) (table (lastRankOf (now (file .entry))) windows) ⌝ }
 {
-    let mut lasts = [0; 2048];
+    let mut lasts = [0; GREATEST_COUNT];
     find_parents(file, windows, parents);
     fill_lasts(file, windows, &mut lasts);
     let count = forest::fill_levels(parents, windows, components, depths);
@@ -106,7 +108,7 @@ pub fn build(
         last_ranks.len(),
         tags.len(),
     ) {
-        return BuildAnswer::Refused(refusal(8));
+        return BuildAnswer::Refused(Refusal::by(8));
     }
     let plan = wire::read_u16(file, 0);
     let count = fill_tables(file, n, parents, components, depths, ranks, last_ranks);
@@ -116,4 +118,25 @@ pub fn build(
         windows,
         components: count,
     }
+}
+
+// The tag file of a plan alone, for callers who do not want the tables.
+pub fn tag_file(file: &[u8], tags: &mut [u8]) -> BuildAnswer
+    ensures { λ r. ⌜ r ≡ tagsAnswerOf (now (file .entry)) (length (now (tags .entry))) ⌝ }
+    ensures { λ r. ⌜ now (tags .exit) ≡ afterTags r (numbersAt (now (file .entry))) (now (tags .entry)) ⌝ }
+{
+    let mut parents = [0; GREATEST_COUNT];
+    let mut components = [0; GREATEST_COUNT];
+    let mut depths = [0; GREATEST_COUNT];
+    let mut ranks = [0; GREATEST_COUNT];
+    let mut last_ranks = [0; GREATEST_COUNT];
+    build(
+        file,
+        &mut parents,
+        &mut components,
+        &mut depths,
+        &mut ranks,
+        &mut last_ranks,
+        tags,
+    )
 }

@@ -1,30 +1,32 @@
 // The last of each window, by a search over the later windows' offsets, which do not fall.
 use crate::answers::TableAnswer;
-use crate::answers::refusal;
-use crate::windows::end_at;
+use crate::windows::bound_at;
 use crate::windows::read_offsets;
+use plan::GREATEST_COUNT;
 use plan::Validation;
+use wire::Refusal;
 ghost use mathlib.Core.Path.{_≡_};
 ghost use Prim.Native.Nat.{_≤_, _<_};
 ghost use lib.ListN.{length};
 ghost use Rattle.sequences.specs.Table.{table, overwritten};
 ghost use Rattle.tree.specs.Tables.{lastOf};
+ghost use Rattle.plan.specs.Validation.{greatestCount};
 ghost use Rattle.plan.specs.AcceptedWindows.{AcceptedWindows};
 ghost use Rattle.tree.specs.SingleTable.{tableAnswerOf, afterTable};
 ghost use Rattle.tree.specs.Passes.{Prepared, Sorted, LastBefore};
 
-// The last position whose offset lies before the end; 0 where there is none. The table is as long for every plan and the
+// The last position whose offset lies before the bound; 0 where there is none. The table is as long for every plan and the
 // comparison is a factor, so that the search compiles to no branch that a processor would have to guess.
-fn last_before(offsets: &[u32], end: u32) -> usize
-    requires { ⌜ 2048 ≤ length (now offsets) ⌝ }
-    requires { ⌜ Sorted (now offsets) 2048 ⌝ }
-    ensures { λ r. ⌜ LastBefore (now (offsets .entry)) end 2048 r ⌝ }
+fn last_before(offsets: &[u32], bound: u32) -> usize
+    requires { ⌜ greatestCount ≤ length (now offsets) ⌝ }
+    requires { ⌜ Sorted (now offsets) greatestCount ⌝ }
+    ensures { λ r. ⌜ LastBefore (now (offsets .entry)) bound greatestCount r ⌝ }
 {
     let mut low = 0;
-    let mut width = 2048;
+    let mut width = GREATEST_COUNT;
     while 1 < width {
         let half = width / 2;
-        low += half * ((offsets[low + half] < end) as usize);
+        low += half * ((offsets[low + half] < bound) as usize);
         width -= half;
     }
     low
@@ -37,7 +39,7 @@ fn find_lasts(file: &[u8], windows: usize, offsets: &[u32], lasts: &mut [u16])
 {
     let mut position = 0;
     while position < windows {
-        lasts[position] = last_before(offsets, end_at(file, position)) as u16;
+        lasts[position] = last_before(offsets, bound_at(file, position)) as u16;
         position += 1;
     }
 }
@@ -47,7 +49,7 @@ pub(crate) fn fill_lasts(file: &[u8], windows: usize, lasts: &mut [u16])
     requires { ⌜ windows ≤ length (now lasts) ⌝ }
     ensures { λ _. ⌜ now (lasts .exit) ≡ overwritten (now (lasts .entry)) (table (lastOf (now (file .entry))) windows) ⌝ }
 {
-    let mut offsets = [4294967295; 2048];
+    let mut offsets = [4294967295; GREATEST_COUNT];
     read_offsets(file, windows, &mut offsets);
     find_lasts(file, windows, &offsets, lasts);
 }
@@ -62,7 +64,7 @@ pub fn last_table(file: &[u8], lasts: &mut [u16]) -> TableAnswer
         Validation::Refused(refusal) => return TableAnswer::Refused(refusal),
     };
     if lasts.len() < windows as usize {
-        return TableAnswer::Refused(refusal(8));
+        return TableAnswer::Refused(Refusal::by(8));
     }
     fill_lasts(file, windows as usize, lasts);
     TableAnswer::Filled { windows }

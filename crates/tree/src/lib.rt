@@ -11,6 +11,7 @@ pub use answers::BuildAnswer;
 pub use answers::ReachAnswer;
 pub use answers::TableAnswer;
 pub use building::build;
+pub use building::tag_file;
 pub use lasts::last_table;
 pub use parents::parent_table;
 pub use reaching::reach;

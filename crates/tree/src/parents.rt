@@ -1,30 +1,30 @@
 // The parent table, by two fingers: the parent moves only to the right as the window does, so all of it is linear.
 use crate::answers::TableAnswer;
-use crate::answers::refusal;
-use crate::windows::end_at;
+use crate::windows::bound_at;
 use crate::windows::offset_at;
 use plan::Validation;
+use wire::Refusal;
 ghost use mathlib.Core.Path.{_≡_};
 ghost use Prim.Native.Nat.{_≤_};
 ghost use lib.ListN.{length};
 ghost use Rattle.sequences.specs.Table.{table, overwritten};
-ghost use Rattle.tree.specs.Tables.{parentOf, endAt};
+ghost use Rattle.tree.specs.Tables.{parentOf, boundAt};
 ghost use Rattle.plan.specs.File.{windowCount};
 ghost use Rattle.plan.specs.Validation.{AcceptedPlan};
 ghost use Rattle.plan.specs.AcceptedWindows.{AcceptedWindows};
 ghost use Rattle.tree.specs.SingleTable.{tableAnswerOf, afterTable};
 ghost use Rattle.tree.specs.Passes.{FirstPast};
 
-// The first position from `from` on whose end lies past the offset, or `to` where there is none before it.
+// The first position from `from` on whose bound lies past the offset, or `to` where there is none before it.
 fn first_past(file: &[u8], offset: u32, from: usize, to: usize) -> usize
     requires { ⌜ AcceptedPlan (now file) ⌝ }
     requires { ⌜ from ≤ to ⌝ }
     requires { ⌜ to ≤ windowCount (now file) ⌝ }
-    ensures { λ r. ⌜ FirstPast (endAt (now (file .entry))) offset from to r ⌝ }
+    ensures { λ r. ⌜ FirstPast (boundAt (now (file .entry))) offset from to r ⌝ }
 {
     let mut at = from;
     while at < to {
-        if offset < end_at(file, at) {
+        if offset < bound_at(file, at) {
             return at;
         }
         at += 1;
@@ -56,7 +56,7 @@ pub fn parent_table(file: &[u8], parents: &mut [u16]) -> TableAnswer
         Validation::Refused(refusal) => return TableAnswer::Refused(refusal),
     };
     if parents.len() < windows as usize {
-        return TableAnswer::Refused(refusal(8));
+        return TableAnswer::Refused(Refusal::by(8));
     }
     find_parents(file, windows as usize, parents);
     TableAnswer::Filled { windows }

@@ -1,8 +1,9 @@
 // Reach: the depth of the last window of a position's component, plus 1.
 use crate::answers::ReachAnswer;
-use crate::answers::refusal;
 use crate::parents::find_parents;
+use plan::GREATEST_COUNT;
 use plan::Validation;
+use wire::Refusal;
 ghost use mathlib.Core.Path.{_≡_};
 ghost use Prim.Native.Nat.{_≤_, _<_};
 ghost use lib.ListN.{length};
@@ -33,9 +34,9 @@ fn find_reach(file: &[u8], windows: usize, at: usize) -> u16
     requires { ⌜ at < windows ⌝ }
     ensures { λ r. ⌜ r ≡ reachIn windows (overlaps (now (file .entry))) at ⌝ }
 {
-    let mut parents = [0; 2048];
-    let mut components = [0; 2048];
-    let mut depths = [0; 2048];
+    let mut parents = [0; GREATEST_COUNT];
+    let mut components = [0; GREATEST_COUNT];
+    let mut depths = [0; GREATEST_COUNT];
     find_parents(file, windows, &mut parents);
     forest::fill_levels(&parents, windows, &mut components, &mut depths);
     let last = run_end(&components, windows, at);
@@ -51,7 +52,7 @@ pub fn reach(file: &[u8], at: usize) -> ReachAnswer
         Validation::Refused(refusal) => return ReachAnswer::Refused(refusal),
     };
     if windows <= at {
-        return ReachAnswer::Refused(refusal(7));
+        return ReachAnswer::Refused(Refusal::by(7));
     }
     ReachAnswer::Reach(find_reach(file, windows, at))
 }

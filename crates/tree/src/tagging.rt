@@ -1,8 +1,10 @@
 // The tag file: the tags of the windows in order of position, from the tables of their numbers.
+use tag::Tag;
 ghost use mathlib.Core.Path.{_≡_};
 ghost use Prim.Native.Nat.{_*_, _≤_};
 ghost use lib.ListN.{length};
 ghost use Rattle.sequences.specs.Table.{overwritten};
+ghost use Rattle.tag.specs.Fields.{tagLength};
 ghost use Rattle.tag.specs.TagFile.{tagFile};
 ghost use Rattle.tree.specs.Tagging.{numbersIn, Numbered};
 
@@ -16,12 +18,12 @@ pub(crate) fn write_tags(
     tags: &mut [u8],
 )
     requires { ⌜ Numbered windows plan (now components) (now depths) (now ranks) (now «last_ranks») ⌝ }
-    requires { ⌜ 10 * windows ≤ length (now tags) ⌝ }
+    requires { ⌜ tagLength * windows ≤ length (now tags) ⌝ }
     ensures { λ _. ⌜ now (tags .exit) ≡ overwritten (now (tags .entry)) (tagFile (numbersIn plan (now (components .entry)) (now (depths .entry)) (now (ranks .entry)) (now («last_ranks» .entry))) windows) ⌝ }
 {
     let mut position = 0;
     while position < windows {
-        let at = 10 * position;
+        let at = Tag::LENGTH * position;
         tag::write(
             plan,
             components[position],

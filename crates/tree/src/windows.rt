@@ -1,4 +1,6 @@
-// The windows of an accepted plan: the offset and the end of each, and the offsets as a table.
+// The windows of an accepted plan: the offset and the bound of each, and the offsets as a table.
+use plan::HEADER_LENGTH;
+use plan::WINDOW_LENGTH;
 use plan::Window;
 ghost use mathlib.Core.Path.{_≡_};
 ghost use Prim.Native.Nat.{_≤_, _<_};
@@ -7,15 +9,15 @@ ghost use Rattle.sequences.specs.Table.{table, overwritten};
 ghost use Rattle.plan.specs.File.{windowCount, windowAt};
 ghost use Rattle.plan.specs.Validation.{AcceptedPlan};
 ghost use Rattle.plan.specs.AcceptedWindows.{AcceptedWindows};
-ghost use Rattle.tree.specs.Tables.{offsetAt, endAt};
+ghost use Rattle.tree.specs.Tables.{offsetAt, boundAt};
 
 fn window_at(file: &[u8], position: usize) -> Window
     requires { ⌜ AcceptedPlan (now file) ⌝ }
     requires { ⌜ position < windowCount (now file) ⌝ }
     ensures { λ r. ⌜ r ≡ windowAt (now (file .entry)) position ⌝ }
 {
-    let at = 4 + 8 * position;
-    plan::read_window(&file[at..at + 8])
+    let at = HEADER_LENGTH + WINDOW_LENGTH * position;
+    plan::read_window(&file[at..at + WINDOW_LENGTH])
 }
 
 pub(crate) fn offset_at(file: &[u8], position: usize) -> u32
@@ -26,14 +28,13 @@ pub(crate) fn offset_at(file: &[u8], position: usize) -> u32
     window_at(file, position).offset
 }
 
-// An accepted plan's ends fit 32 bits.
-pub(crate) fn end_at(file: &[u8], position: usize) -> u32
+// An accepted plan's bounds fit 32 bits.
+pub(crate) fn bound_at(file: &[u8], position: usize) -> u32
     requires { ⌜ AcceptedPlan (now file) ⌝ }
     requires { ⌜ position < windowCount (now file) ⌝ }
-    ensures { λ r. ⌜ r ≡ endAt (now (file .entry)) position ⌝ }
+    ensures { λ r. ⌜ r ≡ boundAt (now (file .entry)) position ⌝ }
 {
-    let window = window_at(file, position);
-    window.offset + window.length
+    plan::window_bound(window_at(file, position)) as u32
 }
 
 pub(crate) fn read_offsets(file: &[u8], windows: usize, offsets: &mut [u32])

@@ -31,13 +31,13 @@ cast-n c = search needs
 tables-fit-requires : tie.Need-tables-fit-requires
 tables-fit-requires c κs = windows-few (validated-windows _ _ (c .before .before .before .validate .ensures) _ _ (c .before .windows .given .1))
 
-refusal-requires : tie.Need-refusal-requires
-refusal-requires c κs = search needs
+by-requires : tie.Need-by-requires
+by-requires c κs = search needs
 
 returns-2 : tie.Need-returns-2
 unfolding afterBuild afterTags
 returns-2 c = let short = build-short _ _ _ _ _ _ _ _ (c .before .before .before .before .before .before .validate .ensures) _ _ (c .before .before .before .before .windows .given .1) (test-lacking _ _ (c .before .before .tables-fit .ensures) (c .before .if1 .taken)) in
-    rw (c .refusal2 .ensures) (short, (refl, (refl, (refl, (refl, (refl, refl))))))
+    rw (c .by .ensures) (short, (refl, (refl, (refl, (refl, (refl, refl))))))
 
 read-u16-requires : tie.Need-read-u16-requires
 read-u16-requires c κs = search needs
@@ -100,7 +100,7 @@ build-spec =
     returns
     cast-n
     tables-fit-requires
-    refusal-requires
+    by-requires
     returns-2
     read-u16-requires
     fill-tables-requires

@@ -1,7 +1,7 @@
 -- `tree::building::tables_fit` meets its contract: the tests are asked in the definition's order.
 -- Assumes nothing.
 use borrow.Author.Tests.{lt-leb, le-leb}
-use Rattle.tag.specs.Fields.{tagLength, fieldCount}
+use Rattle.tag.specs.Fields.{tagLength}
 use Rattle.tree.specs.Build.{tablesFit}
 use borrow.Author.Needs.{needs}
 use Rattle.tree.proofs.building.tables_fit.Statement.{statement}
@@ -42,7 +42,7 @@ mul-result : tie.Need-mul-result
 mul-result c = search needs
 
 returns-6 : tie.Need-returns-6
-unfolding tablesFit tagLength fieldCount
+unfolding tablesFit
 returns-6 c = rw (
   le-leb _ _ (c .before .before .before .before .if1 .left),
   le-leb _ _ (c .before .before .before .if2 .left),

@@ -19,8 +19,8 @@ abbrev μ-loop : tie.MeasureT-loop
 loop-holds : tie.Need-loop-holds Inv-loop μ-loop
 loop-holds c = filling-start _ _ _
 
-end-at-requires : tie.Need-end-at-requires Inv-loop μ-loop
-end-at-requires c κs = let d = c .before .before .before .before .before in
+bound-at-requires : tie.Need-bound-at-requires Inv-loop μ-loop
+bound-at-requires c κs = let d = c .before .before .before .before .before in
     (d .pre .0 .plan .accepted, omega (arith, d .pre .0 .plan .counted))
 
 last-before-requires : tie.Need-last-before-requires Inv-loop μ-loop
@@ -45,7 +45,7 @@ loop-less c = search needs
 loop-again : tie.Need-loop-again Inv-loop μ-loop
 loop-again c = let d = c .before .before .before .before .before .before .before in
     let h = c .before .before .loop-test .taken in
-    filling-turn _ _ _ _ _ _ (d .pre .1) h (last-found (d .pre .0) _ _ h (rw (c .before .end-at .ensures) at (c .last-before .ensures))) (c .before .before .before .loop .inv)
+    filling-turn _ _ _ _ _ _ (d .pre .1) h (last-found (d .pre .0) _ _ h (rw (c .before .bound-at .ensures) at (c .last-before .ensures))) (c .before .before .before .loop .inv)
 
 same-length : tie.Need-same-length Inv-loop μ-loop
 same-length c = search needs
@@ -60,7 +60,7 @@ find-lasts-spec =
     Inv-loop
     μ-loop
     loop-holds
-    end-at-requires
+    bound-at-requires
     last-before-requires
     cast-lasts
     mul-lasts

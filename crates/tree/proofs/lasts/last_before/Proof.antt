@@ -6,15 +6,16 @@ use lib.ListN.{getD}
 use lib.Dec.{ltb}
 use native.Mathlib.Omega.{arith}
 use Rattle.tree.proofs.Searching.{Bracket, bracket-start, bracket-turn, bracket-found, taken-most}
+use Rattle.plan.specs.Validation.{greatestCount}
 use borrow.Author.Needs.{needs}
 use Rattle.tree.proofs.lasts.last_before.Statement.{statement}
 use Rattle.tree.proofs.lasts.last_before.Tie as tie
 
 abbrev Inv-loop : tie.InvT-loop
-Inv-loop offsets end low₀ width₀ low width = Bracket offsets end 2048 low width
+Inv-loop offsets bound low₀ width₀ low width = Bracket offsets bound greatestCount low width
 
 abbrev μ-loop : tie.MeasureT-loop
-μ-loop offsets end low₀ width₀ low width = width
+μ-loop offsets bound low₀ width₀ low width = width
 
 loop-holds : tie.Need-loop-holds Inv-loop μ-loop
 loop-holds c = bracket-start _ _ _ (omega arith)
@@ -34,12 +35,12 @@ cast-low c = search needs
 mul-low-2 : tie.Need-mul-low-2 Inv-loop μ-loop
 mul-low-2 c = let s = c .before .before .loop in
     let a = c .before .before .before .args in
-    omega (arith, taken-most (s .width / 2) (ltb (getD (now (a .offsets)) (s .low + s .width / 2) 0) (a .end)))
+    omega (arith, taken-most (s .width / 2) (ltb (getD (now (a .offsets)) (s .low + s .width / 2) 0) (a .bound)))
 
 add-low-2 : tie.Need-add-low-2 Inv-loop μ-loop
 add-low-2 c = let s = c .before .before .loop in
     let a = c .before .before .before .args in
-    omega (arith, taken-most (s .width / 2) (ltb (getD (now (a .offsets)) (s .low + s .width / 2) 0) (a .end)))
+    omega (arith, taken-most (s .width / 2) (ltb (getD (now (a .offsets)) (s .low + s .width / 2) 0) (a .bound)))
 
 sub-width : tie.Need-sub-width Inv-loop μ-loop
 sub-width c = search needs

@@ -24,12 +24,12 @@ returns c = (table-refused _ _ _ (c .before .before .before .validate .ensures) 
 cast-if1 : tie.Need-cast-if1
 cast-if1 c = search needs
 
-refusal-requires : tie.Need-refusal-requires
-refusal-requires c κs = search needs
+by-requires : tie.Need-by-requires
+by-requires c κs = search needs
 
 returns-2 : tie.Need-returns-2
 unfolding afterTable
-returns-2 c = rw (c .refusal2 .ensures) (table-short _ _ _ (c .before .before .before .before .before .validate .ensures) _ _ (c .before .before .before .windows .given .1) (c .before .if1 .taken), refl)
+returns-2 c = rw (c .by .ensures) (table-short _ _ _ (c .before .before .before .before .before .validate .ensures) _ _ (c .before .before .before .windows .given .1) (c .before .if1 .taken), refl)
 
 cast-fill-lasts : tie.Need-cast-fill-lasts
 cast-fill-lasts c = search needs
@@ -53,7 +53,7 @@ last-table-spec =
     enum-known-refusal
     returns
     cast-if1
-    refusal-requires
+    by-requires
     returns-2
     cast-fill-lasts
     fill-lasts-requires

@@ -21,11 +21,11 @@ enum-known-refusal c = search needs
 returns : tie.Need-returns
 returns c = reach-refused _ _ _ (c .before .before .before .validate .ensures) _ (c .before .refusal .given .1)
 
-refusal-requires : tie.Need-refusal-requires
-refusal-requires c κs = search needs
+by-requires : tie.Need-by-requires
+by-requires c κs = search needs
 
 returns-2 : tie.Need-returns-2
-returns-2 c = rw (c .refusal2 .ensures) (reach-beyond _ _ _ (c .before .before .before .before .before .validate .ensures) _ _ (c .before .before .before .windows .given .1) (c .before .if1 .taken))
+returns-2 c = rw (c .by .ensures) (reach-beyond _ _ _ (c .before .before .before .before .before .validate .ensures) _ _ (c .before .before .before .windows .given .1) (c .before .if1 .taken))
 
 find-reach-requires : tie.Need-find-reach-requires
 find-reach-requires c κs = (validated-windows _ _ (c .before .before .before .before .validate .ensures) _ _ (c .before .before .windows .given .1), c .if1 .left)
@@ -42,7 +42,7 @@ reach-spec =
     cast-windows
     enum-known-refusal
     returns
-    refusal-requires
+    by-requires
     returns-2
     find-reach-requires
     returns-3)

@@ -3,7 +3,7 @@
 use native.Mathlib.Omega.{arith}
 use denote.Ref.{now}
 use Rattle.plan.proofs.Validation.{window-at}
-use Rattle.tree.proofs.Reading.{window-within}
+use Rattle.plan.proofs.Counted.{window-within}
 use borrow.Author.Needs.{needs}
 use Rattle.tree.proofs.windows.window_at.Statement.{statement}
 use Rattle.tree.proofs.windows.window_at.Tie as tie
