@@ -3,7 +3,7 @@
 -- Vocabulary: Tabled.
 -- Assumes nothing.
 use Prim.Native.Nat.{ℕ, _≤_, _<_}
-use mathlib.Core.Path.{_≡_, refl, sym, _∙_}
+use mathlib.Core.Path.{_≡_, refl, sym, ap, _∙_}
 use mathlib.Core.Logic.{⊎-elim}
 use mathlib.Core.List.{List}
 use native.Mathlib.Omega.{arith}
@@ -66,6 +66,10 @@ module _ (file : List ℕ) (room : ℕ) (enough : greatestCount ≤ room) where
   pub table-refuses : (answer : TableAnswer) (refusal : Refusal) → answer ≡ tableAnswerOf file room → answer ≡ Refused refusal → validateAnswerOf file ≡ Validation.Refused refusal
   table-refuses answer refusal e f =
       from-validation (validateAnswerOf file) refusal (sym f ∙ (e ∙ by-validation (validateAnswerOf file) refl))
+
+-- The answer depends on how much room there is.
+pub table-asked : (file : List ℕ) (k j : ℕ) (answer : TableAnswer) → answer ≡ tableAnswerOf file k → k ≡ j → answer ≡ tableAnswerOf file j
+table-asked file k j answer e same = e ∙ ap (tableAnswerOf file) same
 
 -- A table that is filled is that of an accepted plan, with room for an entry for each window.
 pub table-fills : (file : List ℕ) (room : ℕ) (answer : TableAnswer) (windows : ℕ) → answer ≡ tableAnswerOf file room → answer ≡ Filled windows → AcceptedWindows file windows × (windows ≤ room)

@@ -2,6 +2,8 @@
 --   Tagged        the pass that writes the tag file
 --   Built         what the passes of build leave for one another, and its answers
 --   Reached       the last window of a component, reach, and its answers
+--   Plan12        the worked example, by computation
 pub mod Tagged
 pub mod Built
 pub mod Reached
+pub mod Plan12

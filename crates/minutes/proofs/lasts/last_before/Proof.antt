@@ -17,6 +17,9 @@ Inv-loop offsets bound low₀ width₀ low width = Bracket offsets bound greates
 abbrev μ-loop : tie.MeasureT-loop
 μ-loop offsets bound low₀ width₀ low width = width
 
+loop-again : tie.Need-loop-again Inv-loop μ-loop
+loop-again c = bracket-turn _ _ _ _ _ _ (c .before .before .before .pre .1) (c .before .before .loop .inv) (omega arith) (omega arith)
+
 loop-holds : tie.Need-loop-holds Inv-loop μ-loop
 loop-holds c = bracket-start _ _ _ (omega arith)
 
@@ -47,9 +50,6 @@ sub-width c = search needs
 
 loop-less : tie.Need-loop-less Inv-loop μ-loop
 loop-less c = search needs
-
-loop-again : tie.Need-loop-again Inv-loop μ-loop
-loop-again c = bracket-turn _ _ _ _ _ _ (c .before .before .before .pre .1) (c .before .before .loop .inv) (omega arith) (omega arith)
 
 returns : tie.Need-returns Inv-loop μ-loop
 returns c = bracket-found _ _ _ _ _ (c .loop-test .left) (c .before .loop .inv)

@@ -3,7 +3,7 @@
 use mathlib.Core.Path.{refl, sym, _∙_}
 use native.Mathlib.Omega.{arith}
 use Rattle.minutes.specs.SingleTable.{afterTable}
-use Rattle.minutes.proofs.SingleTabled.{table-fills}
+use Rattle.minutes.proofs.SingleTabled.{table-asked, table-fills}
 use borrow.Author.Needs.{needs}
 use Rattle.minutes.proofs.tables.fill_tables.Statement.{statement}
 use Rattle.minutes.proofs.tables.fill_tables.Tie as tie
@@ -39,7 +39,7 @@ fill-lasts-requires c κs = let fills = table-fills _ _ _ _ (c .before .before .
 
 returns : tie.Need-returns
 unfolding afterTable
-returns c = rw (← c .before .before .before .before .before .smaller .ensures, ← c .before .before .before .before .smaller2 .ensures) (sym (c .before .refusal .given .1) ∙ c .before .before .before .table-room .ensures, (refl, refl))
+returns c = (table-asked _ _ _ _ (sym (c .before .refusal .given .1) ∙ c .before .before .before .table-room .ensures) (omega (arith, c .before .before .before .before .before .smaller .ensures, c .before .before .before .before .smaller2 .ensures)), (refl, refl))
 
 same-length : tie.Need-same-length
 same-length c = search needs
@@ -49,7 +49,7 @@ same-length-2 c = search needs
 
 returns-2 : tie.Need-returns-2
 unfolding afterTable
-returns-2 c = rw (← c .before .before .before .before .before .before .before .before .before .before .before .before .before .smaller .ensures, ← c .before .before .before .before .before .before .before .before .before .before .before .before .smaller2 .ensures) (sym (c .before .before .before .before .before .before .before .before .before .windows .given .1) ∙ c .before .before .before .before .before .before .before .before .before .before .before .table-room .ensures, (c .before .before .before .before .before .before .find-parents .ensures, c .before .before .fill-lasts .ensures))
+returns-2 c = (table-asked _ _ _ _ (sym (c .before .before .before .before .before .before .before .before .before .windows .given .1) ∙ c .before .before .before .before .before .before .before .before .before .before .before .table-room .ensures) (omega (arith, c .before .before .before .before .before .before .before .before .before .before .before .before .before .smaller .ensures, c .before .before .before .before .before .before .before .before .before .before .before .before .smaller2 .ensures)), (c .before .before .before .before .before .before .find-parents .ensures, c .before .before .fill-lasts .ensures))
 
 pub fill-tables-spec : {M : Type 1} → statement M
 fill-tables-spec =

@@ -14,6 +14,30 @@ use borrow.Author.Needs.{needs}
 use Rattle.tree.proofs.building.build.Statement.{statement}
 use Rattle.tree.proofs.building.build.Tie as tie
 
+returns-2 : tie.Need-returns-2
+unfolding afterBuild afterTags afterTable planNumber
+returns-2 c = let asked = rw (c .before .before .before .before .before .before .before .before .before .before .before .before .before .before .before .before .before .before .before .before .before .before .before .before .before .before .before .before .before .before .before .before .before .before .before .before .before .smaller4 .ensures, c .before .before .before .before .before .before .before .before .before .before .before .before .before .before .before .before .before .before .before .before .before .before .before .before .before .before .before .before .before .before .before .before .before .before .before .before .before .before .smaller3 .ensures, c .before .before .before .before .before .before .before .before .before .before .before .before .before .before .before .before .before .before .before .before .before .before .before .before .before .before .before .before .before .before .before .before .before .before .before .before .before .before .before .smaller2 .ensures, c .before .before .before .before .before .before .before .before .before .before .before .before .before .before .before .before .before .before .before .before .before .before .before .before .before .before .before .before .before .before .before .before .before .before .before .before .before .before .before .before .smaller .ensures) at (c .before .before .before .before .before .before .before .before .before .before .before .before .before .before .before .before .before .before .before .before .before .before .before .before .before .before .before .before .before .before .before .before .before .before .fill-tables .ensures .0) in
+    let e = c .before .before .before .before .before .before .before .before .before .before .before .before .before .before .before .before .before .before .before .before .before .before .before .before .before .before .before .before .before .windows .given .1 in
+    let fills = table-fills _ _ _ _ asked e in
+    let p = fills .0 in
+    let rooms = least-rooms _ _ _ _ _ _ _ (fills .1) in
+    let both = rw e at (c .before .before .before .before .before .before .before .before .before .before .before .before .before .before .before .before .before .before .before .before .before .before .before .before .before .before .before .before .before .before .before .before .before .before .fill-tables .ensures .1) in
+    let parents = overwritten-holds _ _ _ _ (rooms .parents-room) (both .0) in
+    let lasts = overwritten-holds _ _ _ _ (windows-few p) (both .1) in
+    let levels = c .before .before .before .before .before .before .before .before .before .before .before .before .before .before .before .before .before .before .before .before .before .before .before .before .fill-levels .ensures in
+    let components = components-filled p parents _ _ _ (levels .1 .0) (omega (arith, parents .long, rooms .components-room, rooms .depths-room, windows-few p)) in
+    let depths = depths-filled p parents _ _ _ (levels .1 .1) (omega (arith, parents .long, rooms .components-room, rooms .depths-room, windows-few p)) in
+    let ranks = ranks-filled p parents _ _ _ (c .before .before .before .before .before .before .before .before .before .before .before .before .before .before .before .before .before .fill-ranks .ensures) (omega (arith, parents .long, rooms .ranks-room, windows-few p)) in
+    let ranking = overwritten-holds _ _ _ _ (rooms .ranks-room) ranks in
+    let last-ranks = last-ranks-filled p lasts ranking _ _ _ (c .before .before .before .before .before .before .before .before .before .before .before .look-up .ensures) (omega (arith, lasts .long, rooms .last-ranks-room, windows-few p)) in
+    let c-held = overwritten-holds _ _ _ _ (rooms .components-room) components in
+    let d-held = overwritten-holds _ _ _ _ (rooms .depths-room) depths in
+    let l-held = overwritten-holds _ _ _ _ (rooms .last-ranks-room) last-ranks in
+    let number = c .before .before .before .before .before .before .before .before .read-u16 .ensures in
+    let counted = roots-counted p parents _ _ (levels .0) (omega (arith, parents .long, rooms .components-room, rooms .depths-room, windows-few p)) in
+    let tagged = c .before .before .write-tags .ensures ∙ ap (overwritten _) (tags-filled p _ number c-held d-held ranking l-held) in
+    (table-build-filled _ _ _ _ _ _ _ _ asked _ _ _ e number counted, (both .0, (components, (depths, (ranks, (last-ranks, tagged))))))
+
 smaller-requires : tie.Need-smaller-requires
 smaller-requires c κs = search needs
 
@@ -103,30 +127,6 @@ same-length-6 c = search needs
 
 same-length-7 : tie.Need-same-length-7
 same-length-7 c = search needs
-
-returns-2 : tie.Need-returns-2
-unfolding afterBuild afterTags afterTable planNumber
-returns-2 c = let asked = rw (c .before .before .before .before .before .before .before .before .before .before .before .before .before .before .before .before .before .before .before .before .before .before .before .before .before .before .before .before .before .before .before .before .before .before .before .before .before .smaller4 .ensures, c .before .before .before .before .before .before .before .before .before .before .before .before .before .before .before .before .before .before .before .before .before .before .before .before .before .before .before .before .before .before .before .before .before .before .before .before .before .before .smaller3 .ensures, c .before .before .before .before .before .before .before .before .before .before .before .before .before .before .before .before .before .before .before .before .before .before .before .before .before .before .before .before .before .before .before .before .before .before .before .before .before .before .before .smaller2 .ensures, c .before .before .before .before .before .before .before .before .before .before .before .before .before .before .before .before .before .before .before .before .before .before .before .before .before .before .before .before .before .before .before .before .before .before .before .before .before .before .before .before .smaller .ensures) at (c .before .before .before .before .before .before .before .before .before .before .before .before .before .before .before .before .before .before .before .before .before .before .before .before .before .before .before .before .before .before .before .before .before .before .fill-tables .ensures .0) in
-    let e = c .before .before .before .before .before .before .before .before .before .before .before .before .before .before .before .before .before .before .before .before .before .before .before .before .before .before .before .before .before .windows .given .1 in
-    let fills = table-fills _ _ _ _ asked e in
-    let p = fills .0 in
-    let rooms = least-rooms _ _ _ _ _ _ _ (fills .1) in
-    let both = rw e at (c .before .before .before .before .before .before .before .before .before .before .before .before .before .before .before .before .before .before .before .before .before .before .before .before .before .before .before .before .before .before .before .before .before .before .fill-tables .ensures .1) in
-    let parents = overwritten-holds _ _ _ _ (rooms .parents-room) (both .0) in
-    let lasts = overwritten-holds _ _ _ _ (windows-few p) (both .1) in
-    let levels = c .before .before .before .before .before .before .before .before .before .before .before .before .before .before .before .before .before .before .before .before .before .before .before .before .fill-levels .ensures in
-    let components = components-filled p parents _ _ _ (levels .1 .0) (omega (arith, parents .long, rooms .components-room, rooms .depths-room, windows-few p)) in
-    let depths = depths-filled p parents _ _ _ (levels .1 .1) (omega (arith, parents .long, rooms .components-room, rooms .depths-room, windows-few p)) in
-    let ranks = ranks-filled p parents _ _ _ (c .before .before .before .before .before .before .before .before .before .before .before .before .before .before .before .before .before .fill-ranks .ensures) (omega (arith, parents .long, rooms .ranks-room, windows-few p)) in
-    let ranking = overwritten-holds _ _ _ _ (rooms .ranks-room) ranks in
-    let last-ranks = last-ranks-filled p lasts ranking _ _ _ (c .before .before .before .before .before .before .before .before .before .before .before .look-up .ensures) (omega (arith, lasts .long, rooms .last-ranks-room, windows-few p)) in
-    let c-held = overwritten-holds _ _ _ _ (rooms .components-room) components in
-    let d-held = overwritten-holds _ _ _ _ (rooms .depths-room) depths in
-    let l-held = overwritten-holds _ _ _ _ (rooms .last-ranks-room) last-ranks in
-    let number = c .before .before .before .before .before .before .before .before .read-u16 .ensures in
-    let counted = roots-counted p parents _ _ (levels .0) (omega (arith, parents .long, rooms .components-room, rooms .depths-room, windows-few p)) in
-    let tagged = c .before .before .write-tags .ensures ∙ ap (overwritten _) (tags-filled p _ number c-held d-held ranking l-held) in
-    (table-build-filled _ _ _ _ _ _ _ _ asked _ _ _ e number counted, (both .0, (components, (depths, (ranks, (last-ranks, tagged))))))
 
 pub build-spec : {M : Type 1} → statement M
 build-spec =
