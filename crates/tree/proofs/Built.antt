@@ -1,16 +1,17 @@
 -- Build: room for each table, what each pass leaves in an accepted plan's tables, and the answer after each test.
 -- Assumes nothing.
-use Prim.Native.Nat.{ℕ, _*_, _≤_, _<_}
-use mathlib.Core.Bool.{Bool, true, false, not, _&&_}
+use Prim.Native.Nat.{ℕ, _*_, _/_, _≤_, _<_, min}
+use mathlib.Core.Bool.{true, false, _&&_}
 use mathlib.Core.Path.{_≡_, refl, sym, ap, _∙_}
+use mathlib.Core.Logic.{⊎-elim}
 use mathlib.Core.List.{List}
 use lib.ListN.{getD}
 use lib.Dec.{leb}
 use native.Mathlib.Omega.{arith}
-use borrow.Author.Tests.{leb-true, le-leb, not-true, not-false}
+use borrow.Author.Tests.{leb-true, le-leb, lt-leb}
 use Rattle.sequences.specs.Search.{count}
 use Rattle.sequences.specs.Table.{table, overwritten, Holds}
-use Rattle.sequences.proofs.Tests.{and-left, and-right}
+use Rattle.sequences.proofs.Tests.{and-left, and-right, iff-equal, lt-or-ge}
 use Rattle.sequences.proofs.Search.{count-cong}
 use Rattle.sequences.proofs.Table.{table-cong}
 use Rattle.interval_graph.specs.Tree.{last, parent, rank, lastRank}
@@ -30,46 +31,82 @@ use Rattle.plan.specs.AcceptedWindows.{AcceptedWindows}
 use Rattle.plan.specs.declared.questions.Validation.the-variants as Validation
 use Rattle.plan.proofs.Calls.{plan-refused, one-more-no, one-more-yes}
 use Rattle.plan.proofs.Counted.{windows-few, windows-order, validated-windows}
-use Rattle.tag.specs.Fields.{tagLength, fieldLimit}
+use Rattle.tag.specs.Fields.{tagLength}
 use Rattle.tag.specs.TagFile.{tagFile}
 use Rattle.tag.proofs.Fields.{limit-within}
 use Rattle.tag.proofs.TagFile.{tagFile-cong}
 use Rattle.forest.specs.Parents.{parentIn, lookedUp}
 use Rattle.forest.proofs.Parented.{held-parents}
+use Rattle.minutes.specs.declared.answers.TableAnswer.{TableAnswer}
+use Rattle.minutes.specs.Tables.{lastOf, parentOf}
+use Rattle.minutes.specs.SingleTable.{tableAnswerOf}
+use Rattle.minutes.specs.declared.answers.TableAnswer.the-variants as TableAnswer
+use Rattle.minutes.proofs.SingleTabled.{table-refused, table-short, table-filled}
+use Rattle.tree.specs.declared.answers.BuildAnswer.{BuildAnswer}
 use Rattle.tree.specs.declared.answers.BuildAnswer.the-variants.{Built, Refused}
-use Rattle.tree.specs.Tables.{lastOf, parentOf, componentOf, depthOf, rankOf, lastRankOf, componentCount, numbersAt}
+use Rattle.tree.specs.Tables.{componentOf, depthOf, rankOf, lastRankOf, componentCount, numbersAt}
 use Rattle.tree.specs.Build.{tablesFit, buildQuestions, buildAnswerOf, tagsQuestions, tagsAnswerOf}
 use Rattle.tree.specs.Tagging.{numbersIn, Numbered}
-use Rattle.tree.specs.Passes.{Rooms}
-
--- What a test that was negated said of the definition that it was answered by.
-pub test-held : (answer fit : Bool) → answer ≡ fit → not answer ≡ false → fit ≡ true
-test-held answer fit same t = sym same ∙ not-false answer t
-
-pub test-lacking : (answer fit : Bool) → answer ≡ fit → not answer ≡ true → fit ≡ false
-test-lacking answer fit same t = sym same ∙ not-true answer t
 
 -- Room for each of the five tables, and for the tag file.
-pub tables-rooms : (windows parents components depths ranks lastRanks tags : ℕ) → tablesFit windows parents components depths ranks lastRanks tags ≡ true → Rooms windows parents components depths ranks lastRanks × (tagLength * windows ≤ tags)
-unfolding tablesFit
-tables-rooms n p c d r l t h =
-    let t5 = leb n l && leb (tagLength * n) t in
-    let t4 = leb n r && t5 in
-    let t3 = leb n d && t4 in
-    let t2 = leb n c && t3 in
-    let h2 = and-right (leb n p) t2 h in
-    let h3 = and-right (leb n c) t3 h2 in
-    let h4 = and-right (leb n d) t4 h3 in
-    let h5 = and-right (leb n r) t5 h4 in (
+pub record Rooms (windows parents components depths ranks lastRanks tags : ℕ) : Type 0 where
+  pub parents-room : windows ≤ parents
+  pub components-room : windows ≤ components
+  pub depths-room : windows ≤ depths
+  pub ranks-room : windows ≤ ranks
+  pub last-ranks-room : windows ≤ lastRanks
+  pub tags-room : tagLength * windows ≤ tags
+
+-- The least room of all, counted in windows.
+abbrev pub leastRoom : (parents components depths ranks lastRanks tags : ℕ) → ℕ
+leastRoom p c d r l t = min (min (min (min (min (min c d) r) l) (t / tagLength)) p) greatestCount
+
+module _ (n p c d r l t : ℕ) where
+  pub least-rooms : n ≤ leastRoom p c d r l t → Rooms n p c d r l t
+  least-rooms h =
+      record {
+        parents-room = omega arith;
+        components-room = omega arith;
+        depths-room = omega arith;
+        ranks-room = omega arith;
+        last-ranks-room = omega arith;
+        tags-room = omega arith;
+      }
+
+  rooms-fit : Rooms n p c d r l t → tablesFit n p c d r l t ≡ true
+  unfolding tablesFit
+  rooms-fit s =
+      rw (le-leb n p (s .parents-room), le-leb n c (s .components-room), le-leb n d (s .depths-room), le-leb n r (s .ranks-room), le-leb n l (s .last-ranks-room))
+      (le-leb (tagLength * n) t (s .tags-room))
+
+  fit-rooms : tablesFit n p c d r l t ≡ true → Rooms n p c d r l t
+  unfolding tablesFit
+  fit-rooms h =
+      let t5 = leb n l && leb (tagLength * n) t in
+      let t4 = leb n r && t5 in
+      let t3 = leb n d && t4 in
+      let t2 = leb n c && t3 in
+      let h2 = and-right (leb n p) t2 h in
+      let h3 = and-right (leb n c) t3 h2 in
+      let h4 = and-right (leb n d) t4 h3 in
+      let h5 = and-right (leb n r) t5 h4 in
       record {
         parents-room = leb-true n p (and-left (leb n p) t2 h);
         components-room = leb-true n c (and-left (leb n c) t3 h2);
         depths-room = leb-true n d (and-left (leb n d) t4 h3);
         ranks-room = leb-true n r (and-left (leb n r) t5 h4);
         last-ranks-room = leb-true n l (and-left (leb n l) (leb (tagLength * n) t) h5);
-      },
-      leb-true (tagLength * n) t (and-right (leb n l) (leb (tagLength * n) t) h5),
-    )
+        tags-room = leb-true (tagLength * n) t (and-right (leb n l) (leb (tagLength * n) t) h5);
+      }
+
+  -- Question 8 of all tables is that of the least room.
+  least-fit : n ≤ greatestCount → leb n (leastRoom p c d r l t) ≡ tablesFit n p c d r l t
+  least-fit few =
+      iff-equal (leb n (leastRoom p c d r l t)) (tablesFit n p c d r l t)
+      (λ s. rooms-fit (least-rooms (leb-true n (leastRoom p c d r l t) s)))
+      (λ s. let rooms = fit-rooms s in
+      le-leb n (leastRoom p c d r l t)
+      (omega (arith, rooms .parents-room, rooms .components-room, rooms .depths-room, rooms .ranks-room, rooms .last-ranks-room, rooms .tags-room)))
 
 -- The passes over a table that holds an accepted plan's parents fill its tables. `k` is how many entries they go through.
 module _ {file : List ℕ} {windows : ℕ} (plan : AcceptedWindows file windows) {parents : List ℕ} (held : Holds parents (parentOf file) windows) (k : ℕ) where
@@ -158,6 +195,38 @@ module _ (file : List ℕ) (p c d r l t : ℕ) (answer : Validation) (validated 
     build-built number count named fits counted =
         rw (counted, named, ← validated-windows file answer validated plan windows e .counted)
         (one-more-yes file room Refused _ answer validated plan windows e fits)
+
+-- The answer of the call that fills the first two tables, as that of build.
+abbrev built : List ℕ → TableAnswer → BuildAnswer
+built file (TableAnswer.Filled windows) = Built (planNumber file) windows (componentCount file)
+built file (TableAnswer.Refused refusal) = Refused refusal
+
+-- They answer alike where that call is told the least room.
+table-built : (file : List ℕ) (p c d r l t : ℕ) → built file (tableAnswerOf file (leastRoom p c d r l t)) ≡ buildAnswerOf file p c d r l t
+table-built file p c d r l t = by-answer (validateAnswerOf file) refl
+  where
+    k : ℕ
+    k = leastRoom p c d r l t
+
+    by-answer : (v : Validation) → v ≡ validateAnswerOf file → built file (tableAnswerOf file k) ≡ buildAnswerOf file p c d r l t
+    by-answer (Validation.Refused refusal) v =
+        ap (built file) (sym (table-refused file k _ v refusal refl)) ∙ build-refused file p c d r l t _ v refusal refl
+    by-answer (Validation.Accepted plan n) v =
+        let test : leb n k ≡ tablesFit n p c d r l t = least-fit n p c d r l t (windows-few (validated-windows file _ v plan n refl)) in
+        ⊎-elim
+        (λ h. ap (built file) (sym (table-short file k _ v plan n refl h))
+        ∙ build-short file p c d r l t _ v plan n refl (sym test ∙ lt-leb n k h))
+        (λ h. ap (built file) (sym (table-filled file k _ v plan n refl h))
+        ∙ build-built file p c d r l t _ v plan n refl _ _ refl (sym test ∙ le-leb n k h) refl)
+        (lt-or-ge k n)
+
+module _ (file : List ℕ) (p c d r l t : ℕ) (answer : TableAnswer) (asked : answer ≡ tableAnswerOf file (leastRoom p c d r l t)) where
+  pub table-build-refused : (refusal : Refusal) → answer ≡ TableAnswer.Refused refusal → Refused refusal ≡ buildAnswerOf file p c d r l t
+  table-build-refused refusal e = ap (built file) (sym e ∙ asked) ∙ table-built file p c d r l t
+
+  pub table-build-filled : (windows number count : ℕ) → answer ≡ TableAnswer.Filled windows → number ≡ planNumber file → count ≡ componentCount file → Built number windows count ≡ buildAnswerOf file p c d r l t
+  table-build-filled windows number count e named counted =
+      rw (named, counted) (ap (built file) (sym e ∙ asked) ∙ table-built file p c d r l t)
 
 -- Tables as long as any plan's leave the tag file's room to be asked for.
 tables-hold : (windows t : ℕ) → windows ≤ greatestCount → tablesFit windows greatestCount greatestCount greatestCount greatestCount greatestCount t ≡ leb (tagLength * windows) t

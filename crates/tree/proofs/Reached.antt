@@ -10,7 +10,6 @@ use native.Mathlib.Omega.{arith}
 use native.Mathlib.Nat.{le-antisymm}
 use native.Mathlib.Numerals.{add-one}
 use lib.ListN.{getD}
-use lib.Dec.{ltb}
 use borrow.Author.Tests.{lt-ltb, le-ltb}
 use Rattle.sequences.specs.Table.{Holds}
 use Rattle.sequences.proofs.Tests.{lt-or-ge}
@@ -28,7 +27,8 @@ use Rattle.plan.specs.Validation.{greatestCount, validateAnswerOf}
 use Rattle.plan.specs.AcceptedWindows.{AcceptedWindows}
 use Rattle.plan.specs.declared.questions.Validation.the-variants as Validation
 use Rattle.plan.proofs.Calls.{plan-refused, one-more-no, one-more-yes}
-use Rattle.plan.proofs.Counted.{windows-few, windows-order, validated-windows}
+use Rattle.plan.proofs.Counted.{windows-few, windows-order}
+use Rattle.plan.proofs.Accepted.{accepted-validated}
 use Rattle.tree.specs.declared.answers.ReachAnswer.the-variants.{Reach, Refused}
 use Rattle.tree.specs.Tables.{componentOf, depthOf}
 use Rattle.tree.specs.Reach.{reachQuestions, reachAnswerOf}
@@ -95,15 +95,15 @@ module _ (file : List ℕ) (at : ℕ) (answer : Validation) (validated : answer 
   unfolding reachAnswerOf reachQuestions
   reach-refused = plan-refused file _ Refused _ answer validated
 
-  module _ (plan windows : ℕ) (e : answer ≡ Validation.Accepted plan windows) where
-    pub reach-beyond : windows ≤ at → Refused (refusalBy 7) ≡ reachAnswerOf file at
-    unfolding reachAnswerOf reachQuestions positionQuestion question
-    reach-beyond beyond =
-        rw (← validated-windows file answer validated plan windows e .counted)
-        (one-more-no file (positionQuestion at windows) Refused _ answer validated plan windows e (le-ltb at windows beyond))
+module _ {file : List ℕ} {windows : ℕ} (plan : AcceptedWindows file windows) (at : ℕ) where
+  pub reach-beyond : windows ≤ at → Refused (refusalBy 7) ≡ reachAnswerOf file at
+  unfolding reachAnswerOf reachQuestions positionQuestion question
+  reach-beyond beyond =
+      rw (← plan .counted)
+      (one-more-no file (positionQuestion at windows) Refused _ _ refl _ _ (accepted-validated file (plan .accepted)) (le-ltb at windows beyond))
 
-    pub reach-found : (r : ℕ) → at < windows → r ≡ reach windows (overlaps file) at → Reach r ≡ reachAnswerOf file at
-    unfolding reachAnswerOf reachQuestions positionQuestion question
-    reach-found r within found =
-        rw (found, ← validated-windows file answer validated plan windows e .counted)
-        (one-more-yes file (positionQuestion at windows) Refused _ answer validated plan windows e (lt-ltb at windows within))
+  pub reach-found : (r : ℕ) → at < windows → r ≡ reach windows (overlaps file) at → Reach r ≡ reachAnswerOf file at
+  unfolding reachAnswerOf reachQuestions positionQuestion question
+  reach-found r within found =
+      rw (found, ← plan .counted)
+      (one-more-yes file (positionQuestion at windows) Refused _ _ refl _ _ (accepted-validated file (plan .accepted)) (lt-ltb at windows within))

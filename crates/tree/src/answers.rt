@@ -1,12 +1,6 @@
 // What the calls of this crate answer.
 use wire::Refusal;
 
-// One table filled from a plan.
-pub enum TableAnswer {
-    Filled { windows: u16 },
-    Refused(Refusal),
-}
-
 // All tables and the tag file: the plan number, how many windows there are, and how many components.
 pub enum BuildAnswer {
     Built {

@@ -1,79 +1,20 @@
-// Build: validation, room, and then the passes, one after the other.
+// Build: validation and room with the parents and lasts, and then the passes over them, one after the other.
 use crate::answers::BuildAnswer;
-use crate::lasts::fill_lasts;
-use crate::parents::find_parents;
 use crate::tagging::write_tags;
+use minutes::TableAnswer;
 use plan::GREATEST_COUNT;
-use plan::Validation;
 use tag::Tag;
-use wire::Refusal;
 ghost use mathlib.Core.Path.{_≡_};
-ghost use Prim.Native.Nat.{_≤_};
+ghost use Prim.Native.Nat.{min};
 ghost use lib.ListN.{length};
-ghost use Rattle.sequences.specs.Table.{table, overwritten};
-ghost use Rattle.plan.specs.Validation.{greatestCount};
-ghost use Rattle.plan.specs.AcceptedWindows.{AcceptedWindows};
-ghost use Rattle.tree.specs.Tables.{parentOf, componentOf, depthOf, rankOf, lastRankOf, componentCount, numbersAt};
-ghost use Rattle.tree.specs.Passes.{Rooms};
-ghost use Rattle.tree.specs.Build.{tablesFit, buildAnswerOf, tagsAnswerOf, afterBuild, afterTags};
+ghost use Rattle.minutes.specs.Tables.{parentOf};
+ghost use Rattle.tree.specs.Tables.{componentOf, depthOf, rankOf, lastRankOf, numbersAt};
+ghost use Rattle.tree.specs.Build.{buildAnswerOf, tagsAnswerOf, afterBuild, afterTags};
 
-// Whether tables of so many entries, and a tag file of so many bytes, hold what is to be written.
-fn tables_fit(
-    windows: usize,
-    parents: usize,
-    components: usize,
-    depths: usize,
-    ranks: usize,
-    last_ranks: usize,
-    tags: usize,
-) -> bool
-    requires { ⌜ windows ≤ greatestCount ⌝ }
-    ensures { λ r. ⌜ r ≡ tablesFit windows parents components depths ranks «last_ranks» tags ⌝ }
+fn smaller(first: usize, second: usize) -> usize
+    ensures { λ r. ⌜ r ≡ min first second ⌝ }
 {
-    if parents < windows {
-        return false;
-    }
-    if components < windows {
-        return false;
-    }
-    if depths < windows {
-        return false;
-    }
-    if ranks < windows {
-        return false;
-    }
-    if last_ranks < windows {
-        return false;
-    }
-    Tag::LENGTH * windows <= tags
-}
-
-// The five tables of an accepted plan that they have room for; answers with the number of components.
-fn fill_tables(
-    file: &[u8],
-    windows: usize,
-    parents: &mut [u16],
-    components: &mut [u16],
-    depths: &mut [u16],
-    ranks: &mut [u16],
-    last_ranks: &mut [u16],
-) -> u16
-    requires { ⌜ AcceptedWindows (now file) windows ⌝ }
-    requires { ⌜ Rooms windows (length (now parents)) (length (now components)) (length (now depths)) (length (now ranks)) (length (now «last_ranks»)) ⌝ }
-    ensures { λ r. ⌜ r ≡ componentCount (now (file .entry)) ⌝ }
-    ensures { λ _. ⌜ now (parents .exit) ≡ overwritten (now (parents .entry)) (table (parentOf (now (file .entry))) windows) ⌝ }
-    ensures { λ _. ⌜ now (components .exit) ≡ overwritten (now (components .entry)) (table (componentOf (now (file .entry))) windows) ⌝ }
-    ensures { λ _. ⌜ now (depths .exit) ≡ overwritten (now (depths .entry)) (table (depthOf (now (file .entry))) windows) ⌝ }
-    ensures { λ _. ⌜ now (ranks .exit) ≡ overwritten (now (ranks .entry)) (table (rankOf (now (file .entry))) windows) ⌝ }
-    ensures { λ _. ⌜ now («last_ranks» .exit) ≡ overwritten (now («last_ranks» .entry)) (table (lastRankOf (now (file .entry))) windows) ⌝ }
-{
-    let mut lasts = [0; GREATEST_COUNT];
-    find_parents(file, windows, parents);
-    fill_lasts(file, windows, &mut lasts);
-    let count = forest::fill_levels(parents, windows, components, depths);
-    forest::fill_ranks(parents, windows, ranks);
-    forest::look_up(&lasts, windows, ranks, last_ranks);
-    count
+    if first < second { first } else { second }
 }
 
 // The five tables and the tag file of a plan.
@@ -94,29 +35,23 @@ pub fn build(
     ensures { λ r. ⌜ now («last_ranks» .exit) ≡ afterBuild r (lastRankOf (now (file .entry))) (now («last_ranks» .entry)) ⌝ }
     ensures { λ r. ⌜ now (tags .exit) ≡ afterTags r (numbersAt (now (file .entry))) (now (tags .entry)) ⌝ }
 {
-    let windows = match plan::validate(file) {
-        Validation::Accepted { plan: _, windows } => windows,
-        Validation::Refused(refusal) => return BuildAnswer::Refused(refusal),
+    let mut lasts = [0; GREATEST_COUNT];
+    let first = smaller(smaller(components.len(), depths.len()), ranks.len());
+    let room = smaller(smaller(first, last_ranks.len()), tags.len() / Tag::LENGTH);
+    let windows = match minutes::fill_tables(file, room, parents, &mut lasts) {
+        TableAnswer::Filled { windows } => windows,
+        TableAnswer::Refused(refusal) => return BuildAnswer::Refused(refusal),
     };
     let n = windows as usize;
-    if !tables_fit(
-        n,
-        parents.len(),
-        components.len(),
-        depths.len(),
-        ranks.len(),
-        last_ranks.len(),
-        tags.len(),
-    ) {
-        return BuildAnswer::Refused(Refusal::by(8));
-    }
+    let components_found = forest::fill_levels(parents, n, components, depths);
+    forest::fill_ranks(parents, n, ranks);
+    forest::look_up(&lasts, n, ranks, last_ranks);
     let plan = wire::read_u16(file, 0);
-    let count = fill_tables(file, n, parents, components, depths, ranks, last_ranks);
     write_tags(n, plan, components, depths, ranks, last_ranks, tags);
     BuildAnswer::Built {
         plan,
         windows,
-        components: count,
+        components: components_found,
     }
 }
 

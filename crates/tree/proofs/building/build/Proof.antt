@@ -1,19 +1,60 @@
--- `tree::building::build` meets its contract: the validation's refusal, then question 8, then the tables.
+-- `tree::building::build` meets its contract: the refusal of the plan or of question 8, or each pass over what those before it left.
 -- Assumes nothing.
 use mathlib.Core.Path.{refl, ap, _∙_}
 use native.Mathlib.Omega.{arith}
 use Rattle.sequences.specs.Table.{overwritten}
 use Rattle.sequences.proofs.Table.{overwritten-holds}
 use Rattle.plan.specs.File.{planNumber}
-use Rattle.plan.proofs.Counted.{windows-few, validated-windows}
+use Rattle.plan.proofs.Counted.{windows-few}
+use Rattle.minutes.specs.SingleTable.{afterTable}
+use Rattle.minutes.proofs.SingleTabled.{table-fills}
 use Rattle.tree.specs.Build.{afterBuild, afterTags}
-use Rattle.tree.proofs.Built.{test-held, test-lacking, tables-rooms, numbers-filled, tags-filled, build-refused, build-short, build-built}
+use Rattle.tree.proofs.Built.{least-rooms, roots-counted, components-filled, depths-filled, ranks-filled, last-ranks-filled, numbers-filled, tags-filled, table-build-refused, table-build-filled}
 use borrow.Author.Needs.{needs}
 use Rattle.tree.proofs.building.build.Statement.{statement}
 use Rattle.tree.proofs.building.build.Tie as tie
 
-validate-requires : tie.Need-validate-requires
-validate-requires c κs = search needs
+returns-2 : tie.Need-returns-2
+unfolding afterBuild afterTags afterTable planNumber
+returns-2 c = let asked = rw (c .before .before .before .before .before .before .before .before .before .before .before .before .before .before .before .before .before .before .before .before .before .before .before .before .before .before .before .before .before .before .before .before .before .before .before .before .before .smaller4 .ensures, c .before .before .before .before .before .before .before .before .before .before .before .before .before .before .before .before .before .before .before .before .before .before .before .before .before .before .before .before .before .before .before .before .before .before .before .before .before .before .smaller3 .ensures, c .before .before .before .before .before .before .before .before .before .before .before .before .before .before .before .before .before .before .before .before .before .before .before .before .before .before .before .before .before .before .before .before .before .before .before .before .before .before .before .smaller2 .ensures, c .before .before .before .before .before .before .before .before .before .before .before .before .before .before .before .before .before .before .before .before .before .before .before .before .before .before .before .before .before .before .before .before .before .before .before .before .before .before .before .before .smaller .ensures) at (c .before .before .before .before .before .before .before .before .before .before .before .before .before .before .before .before .before .before .before .before .before .before .before .before .before .before .before .before .before .before .before .before .before .before .fill-tables .ensures .0) in
+    let e = c .before .before .before .before .before .before .before .before .before .before .before .before .before .before .before .before .before .before .before .before .before .before .before .before .before .before .before .before .before .windows .given .1 in
+    let fills = table-fills _ _ _ _ asked e in
+    let p = fills .0 in
+    let rooms = least-rooms _ _ _ _ _ _ _ (fills .1) in
+    let both = rw e at (c .before .before .before .before .before .before .before .before .before .before .before .before .before .before .before .before .before .before .before .before .before .before .before .before .before .before .before .before .before .before .before .before .before .before .fill-tables .ensures .1) in
+    let parents = overwritten-holds _ _ _ _ (rooms .parents-room) (both .0) in
+    let lasts = overwritten-holds _ _ _ _ (windows-few p) (both .1) in
+    let levels = c .before .before .before .before .before .before .before .before .before .before .before .before .before .before .before .before .before .before .before .before .before .before .before .before .fill-levels .ensures in
+    let components = components-filled p parents _ _ _ (levels .1 .0) (omega (arith, parents .long, rooms .components-room, rooms .depths-room, windows-few p)) in
+    let depths = depths-filled p parents _ _ _ (levels .1 .1) (omega (arith, parents .long, rooms .components-room, rooms .depths-room, windows-few p)) in
+    let ranks = ranks-filled p parents _ _ _ (c .before .before .before .before .before .before .before .before .before .before .before .before .before .before .before .before .before .fill-ranks .ensures) (omega (arith, parents .long, rooms .ranks-room, windows-few p)) in
+    let ranking = overwritten-holds _ _ _ _ (rooms .ranks-room) ranks in
+    let last-ranks = last-ranks-filled p lasts ranking _ _ _ (c .before .before .before .before .before .before .before .before .before .before .before .look-up .ensures) (omega (arith, lasts .long, rooms .last-ranks-room, windows-few p)) in
+    let c-held = overwritten-holds _ _ _ _ (rooms .components-room) components in
+    let d-held = overwritten-holds _ _ _ _ (rooms .depths-room) depths in
+    let l-held = overwritten-holds _ _ _ _ (rooms .last-ranks-room) last-ranks in
+    let number = c .before .before .before .before .before .before .before .before .read-u16 .ensures in
+    let counted = roots-counted p parents _ _ (levels .0) (omega (arith, parents .long, rooms .components-room, rooms .depths-room, windows-few p)) in
+    let tagged = c .before .before .write-tags .ensures ∙ ap (overwritten _) (tags-filled p _ number c-held d-held ranking l-held) in
+    (table-build-filled _ _ _ _ _ _ _ _ asked _ _ _ e number counted, (both .0, (components, (depths, (ranks, (last-ranks, tagged))))))
+
+smaller-requires : tie.Need-smaller-requires
+smaller-requires c κs = search needs
+
+smaller-requires-2 : tie.Need-smaller-requires-2
+smaller-requires-2 c κs = search needs
+
+smaller-requires-3 : tie.Need-smaller-requires-3
+smaller-requires-3 c κs = search needs
+
+smaller-requires-4 : tie.Need-smaller-requires-4
+smaller-requires-4 c κs = search needs
+
+slice-aggregate-fill-tables : tie.Need-slice-aggregate-fill-tables
+slice-aggregate-fill-tables c = search needs
+
+fill-tables-requires : tie.Need-fill-tables-requires
+fill-tables-requires c κs = search needs
 
 enum-known-windows : tie.Need-enum-known-windows
 enum-known-windows c = search needs
@@ -21,46 +62,56 @@ enum-known-windows c = search needs
 enum-known-refusal : tie.Need-enum-known-refusal
 enum-known-refusal c = search needs
 
+same-length : tie.Need-same-length
+same-length c = search needs
+
 returns : tie.Need-returns
-unfolding afterBuild afterTags
-returns c = (build-refused _ _ _ _ _ _ _ _ (c .before .before .before .validate .ensures) _ (c .before .refusal .given .1), (refl, (refl, (refl, (refl, (refl, refl))))))
+unfolding afterBuild afterTags afterTable
+returns c = let asked = rw (c .before .before .before .before .before .before .before .before .before .smaller4 .ensures, c .before .before .before .before .before .before .before .before .before .before .smaller3 .ensures, c .before .before .before .before .before .before .before .before .before .before .before .smaller2 .ensures, c .before .before .before .before .before .before .before .before .before .before .before .before .smaller .ensures) at (c .before .before .before .before .before .before .fill-tables .ensures .0) in
+    let e = c .before .refusal .given .1 in
+    (table-build-refused _ _ _ _ _ _ _ _ asked _ e, ((rw e at (c .before .before .before .before .before .before .fill-tables .ensures .1 .0)), (refl, (refl, (refl, (refl, refl))))))
 
 cast-n : tie.Need-cast-n
 cast-n c = search needs
 
-tables-fit-requires : tie.Need-tables-fit-requires
-tables-fit-requires c κs = windows-few (validated-windows _ _ (c .before .before .before .validate .ensures) _ _ (c .before .windows .given .1))
+fill-levels-requires : tie.Need-fill-levels-requires
+fill-levels-requires c κs = search needs
 
-by-requires : tie.Need-by-requires
-by-requires c κs = search needs
+fill-ranks-requires : tie.Need-fill-ranks-requires
+fill-ranks-requires c κs = search needs
 
-returns-2 : tie.Need-returns-2
-unfolding afterBuild afterTags
-returns-2 c = let short = build-short _ _ _ _ _ _ _ _ (c .before .before .before .before .before .before .validate .ensures) _ _ (c .before .before .before .before .windows .given .1) (test-lacking _ _ (c .before .before .tables-fit .ensures) (c .before .if1 .taken)) in
-    rw (c .by .ensures) (short, (refl, (refl, (refl, (refl, (refl, refl))))))
+slice-aggregate-look-up : tie.Need-slice-aggregate-look-up
+slice-aggregate-look-up c = search needs
+
+look-up-requires : tie.Need-look-up-requires
+look-up-requires c κs = search needs
 
 read-u16-requires : tie.Need-read-u16-requires
 read-u16-requires c κs = search needs
 
-fill-tables-requires : tie.Need-fill-tables-requires
-fill-tables-requires c κs = (validated-windows _ _ (c .before .before .before .before .before .before .before .before .before .before .before .validate .ensures) _ _ (c .before .before .before .before .before .before .before .before .before .windows .given .1), tables-rooms _ _ _ _ _ _ _ (test-held _ _ (c .before .before .before .before .before .before .before .tables-fit .ensures) (c .before .before .before .before .before .before .if1 .left)) .0)
-
 write-tags-requires : tie.Need-write-tags-requires
-unfolding planNumber
-write-tags-requires c κs = let p = validated-windows _ _ (c .before .before .before .before .before .before .before .before .before .before .before .before .before .before .before .before .before .before .before .before .before .before .before .before .before .before .before .validate .ensures) _ _ (c .before .before .before .before .before .before .before .before .before .before .before .before .before .before .before .before .before .before .before .before .before .before .before .before .before .windows .given .1) in
-    let rooms = tables-rooms _ _ _ _ _ _ _ (test-held _ _ (c .before .before .before .before .before .before .before .before .before .before .before .before .before .before .before .before .before .before .before .before .before .before .before .tables-fit .ensures) (c .before .before .before .before .before .before .before .before .before .before .before .before .before .before .before .before .before .before .before .before .before .before .if1 .left)) in
-    let filled = c .before .before .before .before .before .before .before .before .before .before .before .before .before .before .before .fill-tables .ensures .1 .1 in
-    let components = overwritten-holds _ _ _ _ (rooms .0 .components-room) (filled .0) in
-    let depths = overwritten-holds _ _ _ _ (rooms .0 .depths-room) (filled .1 .0) in
-    let ranks = overwritten-holds _ _ _ _ (rooms .0 .ranks-room) (filled .1 .1 .0) in
-    let lasts = overwritten-holds _ _ _ _ (rooms .0 .last-ranks-room) (filled .1 .1 .1) in
-    (numbers-filled p _ (c .before .before .before .before .before .before .before .before .before .before .before .before .before .before .before .before .before .before .before .before .before .read-u16 .ensures) components depths ranks lasts, rooms .1)
-
-same-length : tie.Need-same-length
-same-length c = search needs
+unfolding planNumber afterTable
+write-tags-requires c κs = let asked = rw (c .before .before .before .before .before .before .before .before .before .before .before .before .before .before .before .before .before .before .before .before .before .before .before .before .before .before .before .before .before .before .before .before .before .before .smaller4 .ensures, c .before .before .before .before .before .before .before .before .before .before .before .before .before .before .before .before .before .before .before .before .before .before .before .before .before .before .before .before .before .before .before .before .before .before .before .smaller3 .ensures, c .before .before .before .before .before .before .before .before .before .before .before .before .before .before .before .before .before .before .before .before .before .before .before .before .before .before .before .before .before .before .before .before .before .before .before .before .smaller2 .ensures, c .before .before .before .before .before .before .before .before .before .before .before .before .before .before .before .before .before .before .before .before .before .before .before .before .before .before .before .before .before .before .before .before .before .before .before .before .before .smaller .ensures) at (c .before .before .before .before .before .before .before .before .before .before .before .before .before .before .before .before .before .before .before .before .before .before .before .before .before .before .before .before .before .before .before .fill-tables .ensures .0) in
+    let e = c .before .before .before .before .before .before .before .before .before .before .before .before .before .before .before .before .before .before .before .before .before .before .before .before .before .before .windows .given .1 in
+    let fills = table-fills _ _ _ _ asked e in
+    let p = fills .0 in
+    let rooms = least-rooms _ _ _ _ _ _ _ (fills .1) in
+    let both = rw e at (c .before .before .before .before .before .before .before .before .before .before .before .before .before .before .before .before .before .before .before .before .before .before .before .before .before .before .before .before .before .before .before .fill-tables .ensures .1) in
+    let parents = overwritten-holds _ _ _ _ (rooms .parents-room) (both .0) in
+    let lasts = overwritten-holds _ _ _ _ (windows-few p) (both .1) in
+    let levels = c .before .before .before .before .before .before .before .before .before .before .before .before .before .before .before .before .before .before .before .before .before .fill-levels .ensures in
+    let components = components-filled p parents _ _ _ (levels .1 .0) (omega (arith, parents .long, rooms .components-room, rooms .depths-room, windows-few p)) in
+    let depths = depths-filled p parents _ _ _ (levels .1 .1) (omega (arith, parents .long, rooms .components-room, rooms .depths-room, windows-few p)) in
+    let ranks = ranks-filled p parents _ _ _ (c .before .before .before .before .before .before .before .before .before .before .before .before .before .before .fill-ranks .ensures) (omega (arith, parents .long, rooms .ranks-room, windows-few p)) in
+    let ranking = overwritten-holds _ _ _ _ (rooms .ranks-room) ranks in
+    let last-ranks = last-ranks-filled p lasts ranking _ _ _ (c .before .before .before .before .before .before .before .before .look-up .ensures) (omega (arith, lasts .long, rooms .last-ranks-room, windows-few p)) in
+    let c-held = overwritten-holds _ _ _ _ (rooms .components-room) components in
+    let d-held = overwritten-holds _ _ _ _ (rooms .depths-room) depths in
+    let l-held = overwritten-holds _ _ _ _ (rooms .last-ranks-room) last-ranks in
+    (numbers-filled p _ (c .before .before .before .before .before .read-u16 .ensures) c-held d-held ranking l-held, rooms .tags-room)
 
 same-length-2 : tie.Need-same-length-2
-same-length-2 c = search needs
+same-length-2 c = search (needs, c .before .before .before .before .before .before .before .before .before .before .before .before .before .before .before .before .before .before .before .before .before .before .before .before .before .before .before .before .before .before .before .before .before .before .fill-tables .kept)
 
 same-length-3 : tie.Need-same-length-3
 same-length-3 c = search needs
@@ -74,41 +125,34 @@ same-length-5 c = search needs
 same-length-6 : tie.Need-same-length-6
 same-length-6 c = search needs
 
-returns-3 : tie.Need-returns-3
-unfolding afterBuild afterTags planNumber
-returns-3 c = let p = validated-windows _ _ (c .before .before .before .before .before .before .before .before .before .before .before .before .before .before .before .before .before .before .before .before .before .before .before .before .before .before .before .before .before .before .validate .ensures) _ _ (c .before .before .before .before .before .before .before .before .before .before .before .before .before .before .before .before .before .before .before .before .before .before .before .before .before .before .before .before .windows .given .1) in
-    let held = test-held _ _ (c .before .before .before .before .before .before .before .before .before .before .before .before .before .before .before .before .before .before .before .before .before .before .before .before .before .before .tables-fit .ensures) (c .before .before .before .before .before .before .before .before .before .before .before .before .before .before .before .before .before .before .before .before .before .before .before .before .before .if1 .left) in
-    let rooms = tables-rooms _ _ _ _ _ _ _ held in
-    let number = c .before .before .before .before .before .before .before .before .before .before .before .before .before .before .before .before .before .before .before .before .before .before .before .before .read-u16 .ensures in
-    let all = c .before .before .before .before .before .before .before .before .before .before .before .before .before .before .before .before .before .before .fill-tables .ensures in
-    let filled = all .1 .1 in
-    let components = overwritten-holds _ _ _ _ (rooms .0 .components-room) (filled .0) in
-    let depths = overwritten-holds _ _ _ _ (rooms .0 .depths-room) (filled .1 .0) in
-    let ranks = overwritten-holds _ _ _ _ (rooms .0 .ranks-room) (filled .1 .1 .0) in
-    let lasts = overwritten-holds _ _ _ _ (rooms .0 .last-ranks-room) (filled .1 .1 .1) in (
-      build-built _ _ _ _ _ _ _ _ (c .before .before .before .before .before .before .before .before .before .before .before .before .before .before .before .before .before .before .before .before .before .before .before .before .before .before .before .before .before .before .validate .ensures) _ _ (c .before .before .before .before .before .before .before .before .before .before .before .before .before .before .before .before .before .before .before .before .before .before .before .before .before .before .before .before .windows .given .1) _ _ number held (all .0),
-      (all .1 .0, (filled .0, (filled .1 .0, (filled .1 .1 .0, (filled .1 .1 .1, (c .before .before .write-tags .ensures ∙ ap (overwritten _) (tags-filled p _ number components depths ranks lasts))))))),
-    )
+same-length-7 : tie.Need-same-length-7
+same-length-7 c = search needs
 
 pub build-spec : {M : Type 1} → statement M
 build-spec =
     tie.close
     (tie.spec
-    validate-requires
+    smaller-requires
+    smaller-requires-2
+    smaller-requires-3
+    smaller-requires-4
+    slice-aggregate-fill-tables
+    fill-tables-requires
     enum-known-windows
     enum-known-refusal
+    same-length
     returns
     cast-n
-    tables-fit-requires
-    by-requires
-    returns-2
+    fill-levels-requires
+    fill-ranks-requires
+    slice-aggregate-look-up
+    look-up-requires
     read-u16-requires
-    fill-tables-requires
     write-tags-requires
-    same-length
     same-length-2
     same-length-3
     same-length-4
     same-length-5
     same-length-6
-    returns-3)
+    same-length-7
+    returns-2)

@@ -1,0 +1,11 @@
+-- Laws, in the order in which they rest on one another.
+--   Reading       where the windows lie in the file, and the table of their offsets
+--   Searching     the searches inside the passes
+--   Prepared      what they find in an accepted plan: parents and lasts
+--   SingleTabled  the answers, and a table that holds any plan's
+--   Plan12        the worked example, by computation
+pub mod Reading
+pub mod Searching
+pub mod Prepared
+pub mod SingleTabled
+pub mod Plan12

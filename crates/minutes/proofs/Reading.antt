@@ -1,0 +1,38 @@
+-- The offset and the bound of a window that was read, and the table of the offsets.
+-- Assumes nothing.
+use Prim.Native.Nat.{ℕ, _≤_}
+use mathlib.Core.Path.{_≡_, refl, ap, _∙_}
+use mathlib.Core.List.{List}
+use native.Mathlib.Omega.{arith}
+use lib.ListN.{replicate, length-replicate, getD-replicate}
+use Rattle.sequences.specs.Table.{table, overwritten}
+use Rattle.sequences.proofs.Table.{length-table, length-overwritten, overwritten-past, overwritten-holds}
+use Rattle.plan.specs.declared.windows.Window.{Window}
+use Rattle.plan.specs.File.{windowAt}
+use Rattle.plan.specs.Overlap.{boundOf}
+use Rattle.plan.specs.Validation.{greatestCount}
+use Rattle.plan.specs.AcceptedWindows.{AcceptedWindows}
+use Rattle.plan.proofs.Counted.{windows-few}
+use Rattle.minutes.specs.Tables.{offsetAt, boundAt}
+use Rattle.minutes.specs.Passes.{Prepared}
+
+pub offset-read : (file : List ℕ) (v : ℕ) (w : Window) → w ≡ windowAt file v → w .offset ≡ offsetAt file v
+unfolding offsetAt
+offset-read file v w same = ap (λ (x : Window). x .offset) same
+
+pub bound-read : (file : List ℕ) (v r : ℕ) (w : Window) → w ≡ windowAt file v → r ≡ boundOf w → r ≡ boundAt file v
+unfolding boundAt
+bound-read file v r w same e = e ∙ ap boundOf same
+
+-- The table of offsets that the pass leaves, where it was full of the greatest number before.
+pub prepared-read : (file : List ℕ) (windows : ℕ) (offsets : List ℕ) → AcceptedWindows file windows → offsets ≡ overwritten (replicate greatestCount 4294967295) (table (offsetAt file) windows) → Prepared file windows offsets
+prepared-read file windows offsets p e = filled greatestCount (windows-few p) e refl
+  where
+    filled : (n : ℕ) → windows ≤ n → offsets ≡ overwritten (replicate n 4294967295) (table (offsetAt file) windows) → n ≡ greatestCount → Prepared file windows offsets
+    filled n room written size =
+        record {
+          plan = p;
+          offsets-held = overwritten-holds (offsetAt file) windows (replicate n 4294967295) offsets (omega (arith, length-replicate {A = ℕ} n 4294967295)) written;
+          long = rw written (omega (arith, size, length-overwritten (replicate n 4294967295) (table (offsetAt file) windows) (omega (arith, length-replicate {A = ℕ} n 4294967295, length-table (offsetAt file) windows)), length-replicate {A = ℕ} n 4294967295));
+          rest = λ k h within. rw written (overwritten-past (offsetAt file) windows (replicate n 4294967295) k 0 h ∙ getD-replicate n k 4294967295 0 (omega arith));
+        }

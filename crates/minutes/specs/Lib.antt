@@ -1,0 +1,7 @@
+-- Parents and lasts from minutes, and what the calls of this crate answer. In reading order:
+--   Tables       parent and last of the window at each position of a plan file
+--   SingleTable  one table by itself
+--   Passes       what the passes are handed and what their searches find; no public promise cites it
+pub mod Tables
+pub mod SingleTable
+pub mod Passes

@@ -1,0 +1,36 @@
+-- What the passes are handed and what the searches inside them find. Nothing here has to be believed: no public promise
+-- cites it.
+-- Vocabulary: Prepared, FirstPast, Sorted, LastBefore.
+use Prim.Native.Nat.{ℕ, _≤_, _<_}
+use mathlib.Core.Path.{_≡_}
+use mathlib.Core.List.{List}
+use lib.ListN.{length, getD}
+use Rattle.sequences.specs.Table.{Holds}
+use Rattle.plan.specs.Validation.{greatestCount}
+use Rattle.plan.specs.AcceptedWindows.{AcceptedWindows}
+use Rattle.minutes.specs.Tables.{offsetAt}
+
+-- An accepted plan's file, how many windows it has, and its offsets as a table as long as any plan's, which is filled up
+-- with a number that no bound lies past.
+pub record Prepared (file : List ℕ) (windows : ℕ) (offsets : List ℕ) : Type 0 where
+  pub plan : AcceptedWindows file windows
+  pub offsets-held : Holds offsets (offsetAt file) windows
+  pub long : length offsets ≡ greatestCount
+  pub rest : (k : ℕ) → windows ≤ k → k < greatestCount → getD offsets k 0 ≡ 4294967295
+
+-- r is the first position from `from` on whose bound lies past the offset, or `to`.
+pub record FirstPast (bounds : ℕ → ℕ) (offset from to r : ℕ) : Type 0 where
+  pub low : from ≤ r
+  pub high : r ≤ to
+  pub past : r < to → offset < bounds r
+  pub before : (k : ℕ) → from ≤ k → k < r → bounds k ≤ offset
+
+-- The first n entries do not fall.
+abbrev pub Sorted : List ℕ → ℕ → Type 0
+Sorted l n = (i j : ℕ) → i ≤ j → j < n → getD l i 0 ≤ getD l j 0
+
+-- r is the last of the first `size` positions whose offset lies before the bound, or 0.
+pub record LastBefore (offsets : List ℕ) (bound size r : ℕ) : Type 0 where
+  pub high : r < size
+  pub before : 0 < r → getD offsets r 0 < bound
+  pub past : (k : ℕ) → r < k → k < size → bound ≤ getD offsets k 0

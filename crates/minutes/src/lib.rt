@@ -1,0 +1,11 @@
+// Parents and lasts of a plan's windows, from their minutes.
+mod answers;
+mod lasts;
+mod parents;
+mod tables;
+mod windows;
+
+pub use answers::TableAnswer;
+pub use lasts::last_table;
+pub use parents::parent_table;
+pub use tables::fill_tables;

@@ -1,0 +1,60 @@
+// The parent table, by two fingers: the parent moves only to the right as the window does, so all of it is linear.
+use crate::answers::TableAnswer;
+use crate::answers::table_room;
+use crate::windows::bound_at;
+use crate::windows::offset_at;
+ghost use mathlib.Core.Path.{_≡_};
+ghost use Prim.Native.Nat.{_≤_};
+ghost use lib.ListN.{length};
+ghost use Rattle.sequences.specs.Table.{table, overwritten};
+ghost use Rattle.plan.specs.File.{windowCount};
+ghost use Rattle.plan.specs.Validation.{AcceptedPlan};
+ghost use Rattle.plan.specs.AcceptedWindows.{AcceptedWindows};
+ghost use Rattle.minutes.specs.Tables.{parentOf, boundAt};
+ghost use Rattle.minutes.specs.SingleTable.{tableAnswerOf, afterTable};
+ghost use Rattle.minutes.specs.Passes.{FirstPast};
+
+// The first position from `from` on whose bound lies past the offset, or `to` where there is none before it.
+fn first_past(file: &[u8], offset: u32, from: usize, to: usize) -> usize
+    requires { ⌜ AcceptedPlan (now file) ⌝ }
+    requires { ⌜ from ≤ to ⌝ }
+    requires { ⌜ to ≤ windowCount (now file) ⌝ }
+    ensures { λ r. ⌜ FirstPast (boundAt (now (file .entry))) offset from to r ⌝ }
+{
+    let mut at = from;
+    while at < to {
+        if offset < bound_at(file, at) {
+            return at;
+        }
+        at += 1;
+    }
+    at
+}
+
+pub(crate) fn find_parents(file: &[u8], windows: usize, parents: &mut [u16])
+    requires { ⌜ AcceptedWindows (now file) windows ⌝ }
+    requires { ⌜ windows ≤ length (now parents) ⌝ }
+    ensures { λ _. ⌜ now (parents .exit) ≡ overwritten (now (parents .entry)) (table (parentOf (now (file .entry))) windows) ⌝ }
+{
+    let mut parent = 0;
+    let mut position = 0;
+    while position < windows {
+        parent = first_past(file, offset_at(file, position), parent, position);
+        parents[position] = parent as u16;
+        position += 1;
+    }
+}
+
+// The parent table by itself.
+pub fn parent_table(file: &[u8], parents: &mut [u16]) -> TableAnswer
+    ensures { λ r. ⌜ r ≡ tableAnswerOf (now (file .entry)) (length (now (parents .entry))) ⌝ }
+    ensures { λ r. ⌜ now (parents .exit) ≡ afterTable r (parentOf (now (file .entry))) (now (parents .entry)) ⌝ }
+{
+    match table_room(file, parents.len()) {
+        TableAnswer::Refused(refusal) => TableAnswer::Refused(refusal),
+        TableAnswer::Filled { windows } => {
+            find_parents(file, windows as usize, parents);
+            TableAnswer::Filled { windows }
+        }
+    }
+}
