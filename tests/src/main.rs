@@ -1,13 +1,18 @@
-//! The library through its C interface beside an implementation of different origin (`oracle`), on every overlap pattern of
-//! few windows and on random plans, damaged files and damaged tags.
+//! The library through its C interface beside an implementation of different origin (`oracle`), on paper 01's cases by name,
+//! on every overlap pattern of few windows and on random plans, damaged files and damaged tags.
 //!
 //!   differential [--long] [--seed N] [--case N]
 //!
 //! A run is decided by its seed. A failure names the seed and the case, and `--seed N --case N` runs that one again.
+mod answers;
+mod both;
 mod calls;
 mod compare;
+mod expected;
 mod oracle;
+mod paper;
 mod random;
+mod refusals;
 mod shapes;
 
 use compare::{Comparison, Depth};
@@ -52,6 +57,14 @@ impl Run {
     }
 }
 
+/// Paper 01's own cases, by name.
+fn paper_cases(run: &mut Run) {
+    for case in paper::cases() {
+        run.case(&format!("paper 01, {}", case.name), &mut |comparison| case.hold(comparison));
+    }
+    run.report("paper 01, by name");
+}
+
 /// Every overlap pattern, with every pair of positions in both orders, and every two patterns for sameness.
 fn every_pattern(run: &mut Run) {
     for n in 0..=run.times(6, 8) as usize {
@@ -67,10 +80,10 @@ fn every_pattern(run: &mut Run) {
         for first in &one {
             run.case("a pattern beside all others", &mut |comparison| {
                 for second in one.iter().chain(more.iter().take(1)) {
-                    comparison.same(&file_of(1, first), &file_of(2, second));
+                    comparison.sameness(&file_of(1, first), &file_of(2, second));
                 }
                 let stretched: Vec<(u32, u32)> = first.iter().map(|w| (7 * w.0 + 5, 7 * w.1)).collect();
-                comparison.same(&file_of(1, first), &file_of(1, &stretched));
+                comparison.sameness(&file_of(1, first), &file_of(1, &stretched));
             });
         }
     }
@@ -92,7 +105,7 @@ fn small_plans(run: &mut Run) {
                     other[at].1 = comparison.random.between(1, 12) as u32;
                     other[at].1 = other[at].1.min(10_000_000 - other[at].0);
                 }
-                comparison.same(&file_of(1, &plan), &file_of(2, &other));
+                comparison.sameness(&file_of(1, &plan), &file_of(2, &other));
             });
         }
     }
@@ -191,10 +204,10 @@ fn any_tags(run: &mut Run) {
                 comparison.tags(&bytes[0], &bytes[1]);
                 comparison.tags(&bytes[0], &bytes[0]);
                 let room = comparison.random.between(7, 14) as usize;
-                comparison.write(tags[0], room);
+                comparison.write(tags[0], room).agree(format_args!("write of {:?} into {room} bytes", tags[0]));
             }
             let length = comparison.random.below(64) as usize;
-            comparison.lookup(&vec![7; length], length / 10);
+            comparison.lookups(&vec![7; length]);
         });
     }
     run.report("tags");
@@ -218,6 +231,7 @@ fn main() {
         usual(info);
         eprintln!("differential FAILED, seed {seed}: {}", AT.lock().unwrap_or_else(|at| at.into_inner()));
     }));
+    paper_cases(&mut run);
     every_pattern(&mut run);
     edges_of_n(&mut run);
     small_plans(&mut run);
