@@ -30,17 +30,31 @@ fn position_sample(n: usize, depth: Depth, random: &mut Random) -> Vec<usize> {
     }
 }
 
+/// Positions that n windows do not have: the next one, one further on, and one that would be a window in 16, 32 or 63 bits.
+/// (Ten times 2^63 and a position is ten times that position in 64 bits.)
+fn positions_past(n: usize, random: &mut Random) -> [usize; 3] {
+    let high = random.pick(&[1 << 16, 1 << 32, 1 << 63]);
+    [n, random.pick(&[n + 1, n.max(2048), usize::MAX]), high + random.below(n.max(1) as u64) as usize]
+}
+
 impl Comparison {
     pub fn new(random: Random) -> Comparison {
         Comparison { random, calls: 0 }
     }
 
-    /// One file through every call that takes one.
+    /// One file through every call that takes one. It stands at any address, even or odd, inside a larger buffer of random
+    /// content, and all of it stays.
     pub fn file(&mut self, file: &[u8], depth: Depth) {
+        let start = self.random.below(16) as usize;
+        let mut before: Vec<u8> = (0..start + file.len() + 16).map(|_| self.random.next() as u8).collect();
+        before[start..start + file.len()].copy_from_slice(file);
+        let held = before.clone();
+        let file = &held[start..start + file.len()];
         match oracle::read_plan(file, 0) {
             Err(no) => self.refused_file(file, no),
             Ok(plan) => self.accepted_file(file, &plan, depth),
         }
+        assert_eq!(held, before, "a file that was only to be read");
     }
 
     fn some_room(&mut self) -> usize {
@@ -58,6 +72,7 @@ impl Comparison {
         assert_eq!(calls::reach(file, at), refused, "reach");
         let mut out = calls::words(rooms[1], &mut self.random);
         assert_eq!(calls::chain(file, at, 0, &mut out), refused, "chain");
+        assert_eq!(calls::chain(file, 0, at, &mut out), refused, "chain");
         assert_eq!(calls::neighbours(file, at, &mut out), refused, "neighbours");
         out.holds("refused", &[]);
         assert_eq!(calls::same(file, file), refused, "same");
@@ -65,7 +80,7 @@ impl Comparison {
         let second = Answer::Refused(Refusal { input: 1, ..no });
         assert_eq!(calls::same(&good, file), second, "same, the second file");
         assert_eq!(calls::same(file, &good), refused, "same, the first file");
-        self.calls += 8;
+        self.calls += 9;
     }
 
     fn accepted_file(&mut self, file: &[u8], plan: &Plan, depth: Depth) {
@@ -97,7 +112,7 @@ impl Comparison {
         columns.tags
     }
 
-    /// One of the tables, or the tag file, too short.
+    /// One of the tables, or the tag file, too short, half of the times by one.
     fn short_tables(&mut self, file: &[u8], n: usize) {
         if n == 0 {
             return;
@@ -106,7 +121,8 @@ impl Comparison {
             let mut rooms = [n; 5];
             let mut tags = 10 * n;
             let room = rooms.get_mut(short).unwrap_or(&mut tags);
-            *room -= self.random.between(1, *room as u64) as usize;
+            let most = self.random.pick(&[1, *room as u64]);
+            *room -= self.random.between(1, most) as usize;
             let mut lent = Tables::new(rooms, tags, &mut self.random);
             assert_eq!(calls::build(file, &mut lent), Answer::Refused(refusal(8, 0, 0)), "build, short {short}");
             lent.holds("refused build", &Columns::default());
@@ -117,13 +133,15 @@ impl Comparison {
     /// Every position of a tag file, and some that it does not have.
     pub fn lookups(&mut self, tags: &[u8]) {
         let n = tags.len() / 10;
-        for at in (0..n).chain([n, n + 1, usize::MAX / 10, usize::MAX / 10 + 1, usize::MAX]) {
+        let overflowing = [usize::MAX / 10, usize::MAX / 10 + 1];
+        for at in (0..n).chain(positions_past(n, &mut self.random)).chain(overflowing) {
             self.lookup(tags, at).agree(format_args!("lookup of {at} in {} bytes", tags.len()));
         }
     }
 
     /// Every two tags of the plan, in both orders, against the search.
     fn pairs(&mut self, tree: &Tree, tags: &[u8], distances: &[Vec<Option<u16>>]) {
+        let before = tags.to_vec();
         for u in 0..tree.n {
             for v in 0..tree.n {
                 let answer = calls::pair(&tags[10 * u..10 * u + 10], &tags[10 * v..10 * v + 10]);
@@ -131,6 +149,7 @@ impl Comparison {
                 assert_eq!(answer, expected, "pair of {u} and {v}");
             }
         }
+        assert_eq!(tags, before, "tags that were only to be read");
         self.calls += (tree.n * tree.n) as u64;
     }
 
@@ -194,10 +213,7 @@ impl Comparison {
 
     /// Positions that the plan does not have, as the first and as the second.
     fn named_positions(&mut self, file: &[u8], n: usize) {
-        for past in [n, n + 1, 2048, 65536 + n, usize::MAX] {
-            if past < n {
-                continue;
-            }
+        for past in positions_past(n, &mut self.random) {
             let mut out = calls::words(self.random.below(3) as usize, &mut self.random);
             let (first, second) = (Answer::Refused(refusal(7, 0, 0)), Answer::Refused(refusal(7, 1, 0)));
             assert_eq!(calls::reach(file, past), first, "reach of {past}");

@@ -65,6 +65,18 @@ fn paper_cases(run: &mut Run) {
     run.report("paper 01, by name");
 }
 
+/// Every refusal of every call, alone and two at a time.
+fn every_refusal(run: &mut Run) {
+    run.case("faulty files", &mut refusals::faulty_files);
+    run.case("two faulty files", &mut refusals::two_files);
+    run.case("positions and rooms", &mut refusals::positions_and_rooms);
+    run.case("rooms of build", &mut refusals::rooms_of_build);
+    run.case("two faulty tags", &mut refusals::two_tags);
+    run.case("tag files", &mut refusals::tag_files);
+    run.case("a tag to be written", &mut refusals::written_tags);
+    run.report("refusals");
+}
+
 /// Every overlap pattern, with every pair of positions in both orders, and every two patterns for sameness.
 fn every_pattern(run: &mut Run) {
     for n in 0..=run.times(6, 8) as usize {
@@ -164,7 +176,7 @@ fn damaged_files(run: &mut Run) {
     run.report("damaged files");
 }
 
-/// The edges of n: 2,048 windows, 2,049 in a long and in a short file.
+/// The edges of n: 2,048 windows, 2,049 in a long and in a short file; two plans of 2,048.
 fn edges_of_n(run: &mut Run) {
     run.case("n at its limit", &mut |comparison| {
         for n in [2047, 2048, 2049] {
@@ -175,6 +187,13 @@ fn edges_of_n(run: &mut Run) {
         let mut last = vec![(0, 5); 2048];
         last[2047] = (0, 0);
         comparison.file(&file_of(3, &last), Depth::Sampled);
+    });
+    run.case("2,048 windows, the same but for the last", &mut |comparison| {
+        let apart: Vec<(u32, u32)> = (0..2048).map(|v| (v, 1)).collect();
+        let mut joined = apart.clone();
+        joined[2046].1 = 2;
+        comparison.sameness(&file_of(3, &apart), &file_of(4, &apart));
+        comparison.sameness(&file_of(3, &apart), &file_of(3, &joined));
     });
 }
 
@@ -232,6 +251,7 @@ fn main() {
         eprintln!("differential FAILED, seed {seed}: {}", AT.lock().unwrap_or_else(|at| at.into_inner()));
     }));
     paper_cases(&mut run);
+    every_refusal(&mut run);
     every_pattern(&mut run);
     edges_of_n(&mut run);
     small_plans(&mut run);
