@@ -1,14 +1,16 @@
 //! The library through its C interface beside an implementation of different origin (`oracle`), on paper 01's cases by name,
 //! on every overlap pattern of few windows and on random plans, damaged files and damaged tags.
 //!
-//!   differential [--long] [--seed N] [--case N]
+//!   differential [--long] [--seed N] [--case N] [--listing PROGRAM]
 //!
-//! A run is decided by its seed. A failure names the seed and the case, and `--seed N --case N` runs that one again.
+//! A run is decided by its seed. A failure names the seed and the case, and `--seed N --case N` runs that one again. The
+//! listing program, where it is given, is run on paper 01's cases at the end.
 mod answers;
 mod both;
 mod calls;
 mod compare;
 mod expected;
+mod listing;
 mod oracle;
 mod paper;
 mod random;
@@ -28,6 +30,7 @@ struct Run {
     long: bool,
     seed: u64,
     only: Option<u64>,
+    listing: Option<String>,
     cases: u64,
     calls: u64,
     started: Instant,
@@ -63,6 +66,18 @@ fn paper_cases(run: &mut Run) {
         run.case(&format!("paper 01, {}", case.name), &mut |comparison| case.hold(comparison));
     }
     run.report("paper 01, by name");
+}
+
+/// The same through the listing program; among them are inputs longer than its buffer.
+fn listed_cases(run: &mut Run) {
+    let Some(program) = run.listing.clone() else {
+        println!("listing: not tried, since no --listing PROGRAM was given");
+        return;
+    };
+    for case in paper::cases() {
+        run.case(&format!("listing, {}", case.name), &mut |_| listing::hold(&program, &case.file, &case.printed()));
+    }
+    run.report("listing");
 }
 
 /// Every refusal of every call, alone and two at a time.
@@ -233,15 +248,16 @@ fn any_tags(run: &mut Run) {
 }
 
 fn main() {
-    let mut run = Run { long: false, seed: 20_240_625, only: None, cases: 0, calls: 0, started: Instant::now() };
+    let mut run = Run { long: false, seed: 20_240_625, only: None, listing: None, cases: 0, calls: 0, started: Instant::now() };
     let mut words = std::env::args().skip(1);
     while let Some(word) = words.next() {
-        let mut number = || words.next().and_then(|n| n.parse().ok()).expect("a number");
+        let mut next = || words.next().expect("a word more");
         match word.as_str() {
             "--long" => run.long = true,
-            "--seed" => run.seed = number(),
-            "--case" => run.only = Some(number()),
-            _ => panic!("usage: differential [--long] [--seed N] [--case N]"),
+            "--seed" => run.seed = next().parse().expect("a number"),
+            "--case" => run.only = Some(next().parse().expect("a number")),
+            "--listing" => run.listing = Some(next()),
+            _ => panic!("usage: differential [--long] [--seed N] [--case N] [--listing PROGRAM]"),
         }
     }
     let seed = run.seed;
@@ -258,6 +274,7 @@ fn main() {
     large_plans(&mut run);
     damaged_files(&mut run);
     any_tags(&mut run);
+    listed_cases(&mut run);
     let seconds = run.started.elapsed().as_secs_f64();
     println!("differential: {} cases, {} calls, no difference, seed {seed}, {seconds:.1} s", run.cases, run.calls);
 }

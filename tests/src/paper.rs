@@ -60,7 +60,7 @@ enum Says {
 
 pub struct Case {
     pub name: &'static str,
-    file: Vec<u8>,
+    pub file: Vec<u8>,
     says: Says,
 }
 
@@ -151,6 +151,16 @@ fn traps() -> Vec<Case> {
 }
 
 impl Case {
+    /// How the listing program's text begins, as far as the case says it.
+    pub fn printed(&self) -> String {
+        match self.says {
+            Lists(listing) => listing.to_string(),
+            Begins(plan, windows, components) => format!("{plan} {windows} {components}\n"),
+            Refused(number, position) => format!("refused {number} {position}\n"),
+            _ => String::new(),
+        }
+    }
+
     pub fn hold(&self, comparison: &mut Comparison) {
         let file = &self.file.clone();
         match self.says {
