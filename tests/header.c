@@ -1,4 +1,5 @@
-/* Every call through include/poddreshi.h, on plan 12: nothing else holds the header's declarations to the library. */
+/* Every call through include/poddreshi.h, on plan 12, and the figures that it names: nothing else holds the header's declarations
+ * to the library. */
 #include <stdio.h>
 #include <stdlib.h>
 #include <string.h>
@@ -66,6 +67,22 @@ static void check_build(void) {
     check(refused(poddreshi_pair(tags, 10, tags, 9), 9, 1, 0), "a short second tag");
 }
 
+/* The figures are where the library's answers change. */
+static void check_figures(void) {
+    static uint8_t longest[PODDRESHI_FILE_LIMIT];
+    unsigned n = PODDRESHI_WINDOWS_LIMIT, i;
+
+    check(is(poddreshi_write(12, PODDRESHI_FIELD_LIMIT, 0, 0, 0, tag, PODDRESHI_TAG_LENGTH), PODDRESHI_WRITTEN, 0, 0, 0), "a tag");
+    check(refused(poddreshi_write(12, 0, 0, 0, 0, tag, PODDRESHI_TAG_LENGTH - 1), 8, 0, 0), "the tag's length");
+    check(refused(poddreshi_write(12, PODDRESHI_FIELD_LIMIT + 1, 0, 0, 0, tag, 10), 10, 0, 0), "the field's limit");
+    longest[2] = n % 256;
+    longest[3] = n / 256;
+    for (i = 0; i < n; i++) longest[8 + 8 * i] = 1;
+    check(is(poddreshi_validate(longest, sizeof longest), PODDRESHI_ACCEPTED, 0, n, 0), "the longest file");
+    longest[2] = (n + 1) % 256;
+    check(refused(poddreshi_validate(longest, sizeof longest), 2, 0, 0), "the limit of windows");
+}
+
 int main(void) {
     int i;
 
@@ -77,8 +94,9 @@ int main(void) {
     }
     check_plan();
     check_build();
+    check_figures();
     file[4 + 8 * 3] = 1;
     check(refused(poddreshi_validate(file, sizeof file), 6, 0, 3), "a falling offset");
-    puts("header: every call on plan 12 as it should be");
+    puts("header: every call on plan 12 and every figure as it should be");
     return 0;
 }
