@@ -131,9 +131,10 @@ impl Tree {
         let minutes = minutes(plan);
         let mut overlaps = vec![Set::empty(n); n];
         for u in 0..n {
-            for v in 0..n {
-                if u != v && minutes[u].shares_with(&minutes[v]) {
+            for v in u + 1..n {
+                if minutes[u].shares_with(&minutes[v]) {
                     overlaps[u].add(v);
+                    overlaps[v].add(u);
                 }
             }
         }
