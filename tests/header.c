@@ -29,7 +29,7 @@ static const uint16_t numbers[7][5] = {{0, 0, 0, 5, 4}, {0, 0, 1, 0, 3}, {0, 0, 
 
 static uint8_t file[60];
 static uint16_t parents[7], components[7], depths[7], ranks[7], last_ranks[7], out[7];
-static uint8_t tags[70], tag[10];
+static uint8_t tags[70], alone[70], tag[10];
 
 static void check_plan(void) {
     static const uint16_t chain[] = {5, 4, 2, 3}, near[] = {0, 1, 3, 4};
@@ -63,8 +63,14 @@ static void check_build(void) {
         check(is(poddreshi_lookup(tags, 70, (size_t)i, &offset), PODDRESHI_FOUND, 0, 0, 0), "lookup");
         check(offset == 10 * (size_t)i && memcmp(tags + offset, tag, 10) == 0, "the tag that is looked up");
     }
+    check(is(poddreshi_tags(file, sizeof file, alone, 70), PODDRESHI_BUILT, 12, 7, 2), "tags");
+    check(memcmp(alone, tags, sizeof tags) == 0, "the tag file alone");
+    check(refused(poddreshi_tags(file, sizeof file, alone, 69), 8, 0, 0), "a short tag file");
     check(is(poddreshi_pair(tags + 10, 10, tags + 50, 10), PODDRESHI_HANDOVERS, 3, 0, 0), "pair");
     check(refused(poddreshi_pair(tags, 10, tags, 9), 9, 1, 0), "a short second tag");
+    check(is(poddreshi_pair_at(tags, 70, 1, 5), PODDRESHI_HANDOVERS, 3, 0, 0), "pair at two positions");
+    check(is(poddreshi_pair_at(tags, 70, 6, 5), PODDRESHI_NO_CHAIN, 0, 0, 0), "no chain of two positions");
+    check(refused(poddreshi_pair_at(tags, 70, 0, 7), 7, 1, 0), "a second position past the last tag");
 }
 
 /* The figures are where the library's answers change. */

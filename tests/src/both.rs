@@ -82,6 +82,12 @@ impl Comparison {
         self.both(library, lent, expected::build(file, rooms, tag_room))
     }
 
+    pub fn tag_file(&mut self, file: &[u8], room: usize) -> Both<Lent<u8>, Vec<u8>> {
+        let mut out = calls::bytes(room, &mut self.random);
+        let library = calls::tags(file, &mut out);
+        self.both(library, out, expected::tags(file, room))
+    }
+
     pub fn reach(&mut self, file: &[u8], at: usize) -> Both<(), ()> {
         self.both(calls::reach(file, at), (), expected::reach(file, at))
     }
@@ -104,6 +110,10 @@ impl Comparison {
 
     pub fn pair(&mut self, first: &[u8], second: &[u8]) -> Both<(), ()> {
         self.both(calls::pair(first, second), (), expected::pair(first, second))
+    }
+
+    pub fn pair_at(&mut self, tags: &[u8], first: usize, second: usize) -> Both<(), ()> {
+        self.both(calls::pair_at(tags, first, second), (), expected::pair_at(tags, first, second))
     }
 
     pub fn lookup(&mut self, tags: &[u8], at: usize) -> Both<Offset, Option<usize>> {

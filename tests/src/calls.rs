@@ -104,6 +104,10 @@ pub fn build(file: &[u8], lent: &mut Tables) -> Answer {
     })
 }
 
+pub fn tags(file: &[u8], out: &mut Lent<u8>) -> Answer {
+    unpack(unsafe { poddreshi_tags(file.as_ptr(), file.len(), out.pointer(), out.room) })
+}
+
 pub fn reach(file: &[u8], at: usize) -> Answer {
     unpack(unsafe { poddreshi_reach(file.as_ptr(), file.len(), at) })
 }
@@ -122,6 +126,10 @@ pub fn same(first: &[u8], second: &[u8]) -> Answer {
 
 pub fn pair(first: &[u8], second: &[u8]) -> Answer {
     unpack(unsafe { poddreshi_pair(first.as_ptr(), first.len(), second.as_ptr(), second.len()) })
+}
+
+pub fn pair_at(tags: &[u8], first: usize, second: usize) -> Answer {
+    unpack(unsafe { poddreshi_pair_at(tags.as_ptr(), tags.len(), first, second) })
 }
 
 pub fn lookup(tags: &[u8], at: usize, offset: &mut usize) -> Answer {

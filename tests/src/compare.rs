@@ -67,7 +67,8 @@ impl Comparison {
         let rooms = [0; 5].map(|_| self.some_room());
         let mut lent = Tables::new(rooms, 10 * rooms[0], &mut self.random);
         assert_eq!(calls::build(file, &mut lent), refused, "build");
-        lent.holds("refused build", &Columns::default());
+        assert_eq!(calls::tags(file, &mut lent.tags), refused, "tags");
+        lent.holds("refused build and tags", &Columns::default());
         let at = self.random.pick(&[0, 1, 2047, usize::MAX]);
         assert_eq!(calls::reach(file, at), refused, "reach");
         let mut out = calls::words(rooms[1], &mut self.random);
@@ -80,7 +81,7 @@ impl Comparison {
         let second = Answer::Refused(Refusal { input: 1, ..no });
         assert_eq!(calls::same(&good, file), second, "same, the second file");
         assert_eq!(calls::same(file, &good), refused, "same, the first file");
-        self.calls += 9;
+        self.calls += 10;
     }
 
     fn accepted_file(&mut self, file: &[u8], plan: &Plan, depth: Depth) {
@@ -95,20 +96,24 @@ impl Comparison {
         if n > 0 {
             let some = position_sample(n, depth, &mut self.random);
             self.from_plan(file, &tree, &some, &distances);
+            self.from_tags(&tags, &some, &distances);
         }
-        self.named_positions(file, n);
+        self.named_positions(file, &tags, n);
         assert_eq!(calls::same(file, file), Answer::Same, "same as itself");
         self.calls += 2;
     }
 
-    /// Build into tables that may be longer than asked, all of them looked at; its tag file.
+    /// Build into tables that may be longer than asked, all of them looked at, and the tag file alone.
     fn tables(&mut self, file: &[u8], tree: &Tree) -> Vec<u8> {
         let rooms = [0; 5].map(|_| tree.n + self.some_room());
         let mut lent = Tables::new(rooms, 10 * tree.n + self.some_room(), &mut self.random);
         assert_eq!(calls::build(file, &mut lent), tree.built(), "build");
         let columns = tree.columns();
         lent.holds("build", &columns);
-        self.calls += 1;
+        let mut alone = calls::bytes(10 * tree.n + self.some_room(), &mut self.random);
+        assert_eq!(calls::tags(file, &mut alone), tree.built(), "tags");
+        alone.holds("tags", &columns.tags);
+        self.calls += 2;
         columns.tags
     }
 
@@ -128,6 +133,10 @@ impl Comparison {
             lent.holds("refused build", &Columns::default());
             self.calls += 1;
         }
+        let mut short = calls::bytes(10 * n - 1, &mut self.random);
+        assert_eq!(calls::tags(file, &mut short), Answer::Refused(refusal(8, 0, 0)), "tags, one byte short");
+        short.holds("refused tags", &[]);
+        self.calls += 1;
     }
 
     /// Every position of a tag file, and some that it does not have.
@@ -151,6 +160,17 @@ impl Comparison {
         }
         assert_eq!(tags, before, "tags that were only to be read");
         self.calls += (tree.n * tree.n) as u64;
+    }
+
+    /// Two positions of the tag file, in both orders, against the search.
+    fn from_tags(&mut self, tags: &[u8], some: &[usize], distances: &[Vec<Option<u16>>]) {
+        for &u in some {
+            for &v in some {
+                let expected = distances[u][v].map_or(Answer::NoChain, Answer::Handovers);
+                assert_eq!(calls::pair_at(tags, u, v), expected, "pair at {u} and {v}");
+            }
+        }
+        self.calls += (some.len() * some.len()) as u64;
     }
 
     /// Chain, neighbours and reach of some positions, chains in both orders.
@@ -211,8 +231,8 @@ impl Comparison {
         }
     }
 
-    /// Positions that the plan does not have, as the first and as the second.
-    fn named_positions(&mut self, file: &[u8], n: usize) {
+    /// Positions that the plan and its tag file do not have, as the first and as the second.
+    fn named_positions(&mut self, file: &[u8], tags: &[u8], n: usize) {
         for past in positions_past(n, &mut self.random) {
             let mut out = calls::words(self.random.below(3) as usize, &mut self.random);
             let (first, second) = (Answer::Refused(refusal(7, 0, 0)), Answer::Refused(refusal(7, 1, 0)));
@@ -220,18 +240,23 @@ impl Comparison {
             assert_eq!(calls::neighbours(file, past, &mut out), first, "neighbours of {past}");
             assert_eq!(calls::chain(file, past, past, &mut out), first, "chain of {past} twice");
             assert_eq!(calls::chain(file, past, 0, &mut out), first, "chain of {past} and 0");
+            assert_eq!(calls::pair_at(tags, past, past), first, "pair at {past} twice");
+            assert_eq!(calls::pair_at(tags, past, 0), first, "pair at {past} and 0");
             if n > 0 {
                 assert_eq!(calls::chain(file, n - 1, past, &mut out), second, "chain of the last and {past}");
+                assert_eq!(calls::pair_at(tags, n - 1, past), second, "pair at the last and {past}");
             }
             out.holds("refused position", &[]);
-            self.calls += 5;
+            self.calls += 8;
         }
     }
 
-    /// Two byte strings as tags, in both orders.
+    /// Two byte strings as tags, in both orders, and as a tag file.
     pub fn tags(&mut self, first: &[u8], second: &[u8]) {
-        for (a, b) in [(first, second), (second, first)] {
+        let file = [first, second].concat();
+        for (a, b, at) in [(first, second, (0, 1)), (second, first, (1, 0))] {
             self.pair(a, b).agree(format_args!("pair of {a:?} and {b:?}"));
+            self.pair_at(&file, at.0, at.1).agree(format_args!("pair at {at:?} of {file:?}"));
         }
     }
 

@@ -44,6 +44,12 @@ pub fn build(file: &[u8], rooms: [usize; 5], tag_room: usize) -> Owed<Columns> {
     Ok((tree.built(), tree.columns()))
 }
 
+pub fn tags(file: &[u8], room: usize) -> Owed<Vec<u8>> {
+    let tree = tree_of(file, 0)?;
+    has_room(room, 10 * tree.n)?;
+    Ok((tree.built(), tree.columns().tags))
+}
+
 pub fn reach(file: &[u8], at: usize) -> Owed<()> {
     let tree = tree_of(file, 0)?;
     is_position(at, tree.n, 0)?;
@@ -77,6 +83,13 @@ pub fn same(first: &[u8], second: &[u8]) -> Owed<()> {
 
 pub fn pair(first: &[u8], second: &[u8]) -> Owed<()> {
     Ok((oracle::pair(first, second)?, ()))
+}
+
+pub fn pair_at(tags: &[u8], first: usize, second: usize) -> Owed<()> {
+    let n = tag_count(tags)?;
+    is_position(first, n, 0)?;
+    is_position(second, n, 1)?;
+    pair(&tags[10 * first..][..10], &tags[10 * second..][..10])
 }
 
 /// What is written is where the tag begins.

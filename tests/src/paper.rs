@@ -210,6 +210,11 @@ fn lists(comparison: &mut Comparison, file: &[u8], listing: &str) {
         }
     }
     assert_eq!(columns(comparison, file), paper, "the tables and the tag file (left) and the paper's");
+    let [plan, windows, components] = line;
+    for more in MORE {
+        let tags = comparison.tag_file(file, paper.tags.len() + more);
+        tags.are(format_args!("tags"), Answer::Built { plan, windows, components }, &paper.tags);
+    }
     for position in 0..line[1] as usize {
         let found = comparison.lookup(&paper.tags, position);
         found.are(format_args!("lookup of {position}"), Answer::Found, &Some(10 * position));
@@ -231,6 +236,8 @@ fn handovers(comparison: &mut Comparison, file: &[u8], (u, v): (usize, usize), c
     for (first, second) in [(u, v), (v, u)] {
         let both = comparison.pair(&tags[10 * first..][..10], &tags[10 * second..][..10]);
         both.are(format_args!("pair of {first} and {second}"), Answer::Handovers(count), &());
+        let both = comparison.pair_at(&tags, first, second);
+        both.are(format_args!("pair at {first} and {second}"), Answer::Handovers(count), &());
         for more in MORE {
             let both = comparison.chain(file, first, second, entries + more);
             let paper = chain.map_or(both.written.clone(), <[u16]>::to_vec);
@@ -246,6 +253,7 @@ fn no_chain(comparison: &mut Comparison, file: &[u8], (u, v): (usize, usize)) {
     for (first, second) in [(u, v), (v, u)] {
         let both = comparison.pair(&tags[10 * first..][..10], &tags[10 * second..][..10]);
         both.are(format_args!("pair of {first} and {second}"), Answer::NoChain, &());
+        comparison.pair_at(&tags, first, second).are(format_args!("pair at {first} and {second}"), Answer::NoChain, &());
         for room in MORE {
             let both = comparison.chain(file, first, second, room);
             both.are(format_args!("chain of {first} and {second}"), Answer::NoChain, &vec![]);

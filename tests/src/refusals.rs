@@ -76,6 +76,7 @@ pub fn every_call_refuses(comparison: &mut Comparison, file: &[u8], number: u16,
     comparison.validate(file).are(format_args!("validate"), first, &());
     for (room, at) in [(0, 0), (2053, 0), (0, usize::MAX), (2053, usize::MAX)] {
         comparison.build(file, [room; 5], 10 * room).are(format_args!("build"), first, &Columns::default());
+        comparison.tag_file(file, 10 * room).are(format_args!("tags"), first, &vec![]);
         comparison.reach(file, at).are(format_args!("reach"), first, &());
         comparison.neighbours(file, at, room).are(format_args!("neighbours"), first, &vec![]);
         comparison.chain(file, at, 0, room).are(format_args!("chain"), first, &vec![]);
@@ -141,7 +142,7 @@ pub fn positions_and_rooms(comparison: &mut Comparison) {
     }
 }
 
-/// Each table and the tag file one too short, exactly fitting or one longer, in every combination.
+/// Each table and the tag file one too short, exactly fitting or one longer, in every combination; and the tag file alone.
 pub fn rooms_of_build(comparison: &mut Comparison) {
     for file in sound_plans() {
         let n = (file.len() - 4) / 8;
@@ -150,6 +151,9 @@ pub fn rooms_of_build(comparison: &mut Comparison) {
             let rooms = [0, 1, 2, 3, 4].map(|table| room(table, n));
             let tags = room(5, 10 * n);
             comparison.build(&file, rooms, tags).agree(format_args!("build with rooms {rooms:?} and {tags}"));
+        }
+        for room in 0..10 * n + 2 {
+            comparison.tag_file(&file, room).agree(format_args!("tags, room for {room}"));
         }
     }
 }
@@ -186,7 +190,8 @@ fn tags() -> Vec<(u16, Vec<u8>)> {
     all
 }
 
-/// Each two, in both orders: the first tag's refusal, then the second's, and then 11 and 12.
+/// Each two, in both orders: the first tag's refusal, then the second's, and then 11 and 12. From a tag file of the two it is
+/// the same.
 pub fn two_tags(comparison: &mut Comparison) {
     let tags = tags();
     for (first_number, first) in &tags {
@@ -198,11 +203,15 @@ pub fn two_tags(comparison: &mut Comparison) {
                 (0, &number) => both.are(what, Answer::Refused(refusal(number, 1, 0)), &()),
                 (&number, _) => both.are(what, Answer::Refused(refusal(number, 0, 0)), &()),
             }
+            if first.len() == 10 && second.len() == 10 {
+                comparison.pair_at(&[&first[..], second].concat(), 0, 1).are(what, both.oracle, &());
+            }
         }
     }
 }
 
-/// Tag files of every length, the last with more tags than 16 bits can count; 9 comes before 7.
+/// Tag files of every length, the last with more tags than 16 bits can count; 9 comes before 7, and the first position before
+/// the second.
 pub fn tag_files(comparison: &mut Comparison) {
     for length in (0..=41).chain([69, 70, 71, 20_480, 20_490]).chain([655_360, 655_370, 655_371]) {
         let tags = vec![7; length];
@@ -210,6 +219,9 @@ pub fn tag_files(comparison: &mut Comparison) {
         let ends = [n.saturating_sub(2), n.saturating_sub(1), 65_535, 65_536];
         for at in positions(n.min(4)).into_iter().chain(ends).chain([n, n + 1]) {
             comparison.lookup(&tags, at).agree(format_args!("lookup of {at} in {length} bytes"));
+            for other in positions(n.min(4)).into_iter().chain(ends) {
+                comparison.pair_at(&tags, at, other).agree(format_args!("pair at {at} and {other} in {length} bytes"));
+            }
         }
     }
 }
