@@ -1,9 +1,12 @@
 -- Paper 01's plan 12, from its bytes: chains, neighbours and sameness come out of the definitions by computation.
 -- Assumes nothing.
+use Prim.Native.Nat.{ℕ}
 use mathlib.Core.Path.{_≡_, refl}
 use mathlib.Core.List.{[], _∷_}
 use Rattle.interval_graph.specs.Walk.{climb, walk, chainOf}
 use Rattle.sequences.specs.Search.{passing, every}
+use Rattle.plan.specs.declared.windows.Window.{Window}
+use Rattle.plan.specs.File.{fileOf}
 use Rattle.plan.proofs.Plan12.{file, meaning}
 use Rattle.path.specs.declared.answers.ChainAnswer.the-variants.{Chain, NoChain, Refused}
 use Rattle.path.specs.declared.answers.NeighboursAnswer.the-variants as NeighboursAnswer
@@ -43,3 +46,11 @@ plan-12-neighbours = (refl, refl, refl)
 pub plan-12-same : sameAnswerOf file file ≡ SameAnswer.Same
 unfolding answers
 plan-12-same = refl
+
+-- Two plans with other numbers, minutes and lengths and one overlap, and two with equal lengths and another.
+abbrev window : ℕ → ℕ → Window
+window offset length = record { offset = offset; length = length }
+
+pub same-by-overlap : (sameAnswerOf (fileOf 1 (window 0 11 ∷ window 10 5 ∷ [])) (fileOf 2 (window 5 5 ∷ window 5 5 ∷ [])) ≡ SameAnswer.Same) × (sameAnswerOf (fileOf 1 (window 0 5 ∷ window 5 5 ∷ [])) (fileOf 1 (window 0 5 ∷ window 4 5 ∷ [])) ≡ SameAnswer.Different)
+unfolding answers
+same-by-overlap = (refl, refl)
