@@ -10,7 +10,7 @@ use Rattle.wire.specs.LittleEndian.{le16, le32, bytes16, bytes32}
 use Rattle.wire.specs.Question.{refusalBy, refusalAbout, question, about, each, firstNo}
 use Rattle.plan.specs.declared.windows.Window.{Window}
 use Rattle.plan.specs.declared.questions.Validation.the-variants.{Accepted, Refused}
-use Rattle.plan.specs.File.{planNumber, windowCount, windowOf, windowAt, endOf, windowBytes, fileOf}
+use Rattle.plan.specs.File.{planNumber, windowCount, windowOf, windowAt, endOf, headerBytes, windowBytes, fileOf}
 use Rattle.plan.specs.Overlap.{covers, sharedMinutes, overlaps}
 use Rattle.plan.specs.Validation.{offsetBefore, windowQuestions, fileQuestions, planQuestions, validateAnswerOf}
 
@@ -23,7 +23,7 @@ file = fileOf 12 (window 0 10 ∷ window 2 3 ∷ window 4 12 ∷ window 9 2 ∷ 
 
 -- What a computation on the file opens.
 unfoldable pub meaning : Unit {0}
-unfolding definitions file fileOf flatMap windowBytes bytes16 bytes32 le16 le32 question about each firstNo planNumber windowCount windowOf windowAt endOf covers sharedMinutes overlaps offsetBefore windowQuestions fileQuestions planQuestions validateAnswerOf
+unfolding definitions file fileOf flatMap headerBytes windowBytes bytes16 bytes32 le16 le32 question about each firstNo planNumber windowCount windowOf windowAt endOf covers sharedMinutes overlaps offsetBefore windowQuestions fileQuestions planQuestions validateAnswerOf
 meaning = tt
 
 pub plan-12-accepted : validateAnswerOf file ≡ Accepted 12 7

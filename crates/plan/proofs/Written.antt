@@ -19,7 +19,7 @@ use Rattle.wire.proofs.LittleEndian.{placed-behind, placed-short}
 use Rattle.wire.specs.Question.{question, about, each, allYes}
 use Rattle.wire.proofs.Question.{all-append, all-about}
 use Rattle.plan.specs.declared.windows.Window.{Window}
-use Rattle.plan.specs.File.{headerLength, windowLength, fileLength, windowPlace, planNumber, windowCount, windowOf, windowAt, windowBytes, fileOf}
+use Rattle.plan.specs.File.{headerLength, windowLength, fileLength, windowPlace, planNumber, windowCount, windowOf, windowAt, headerBytes, windowBytes, fileOf}
 use Rattle.plan.specs.Validation.{greatestCount, offsetBefore, windowQuestions, fileQuestions, planQuestions}
 use Rattle.plan.proofs.Validation.{windowsAsked}
 
@@ -45,25 +45,32 @@ module _ (w : Window) (l : List ℕ) (at : ℕ) where
   pub window-unplaced : length l < at + windowLength → l ≡ placed l at (windowBytes w)
   window-unplaced short = sym (placed-short l at (windowBytes w) (omega (arith, length-windowBytes w)))
 
+length-headerBytes : (plan windows : ℕ) → length (headerBytes plan windows) ≡ headerLength
+unfolding headerBytes bytes16 bytes32
+length-headerBytes plan windows = refl
+
 module _ (plan : ℕ) (windows : List Window) where
   pub length-fileOf : length (fileOf plan windows) ≡ fileLength (length windows)
-  unfolding fileOf bytes16
-  length-fileOf = omega (arith, length-records windowBytes windowLength length-windowBytes windows)
+  unfolding fileOf
+  length-fileOf =
+      length-append (headerBytes plan (length windows)) (flatMap windowBytes windows)
+      ∙ rw (length-headerBytes plan (length windows), length-records windowBytes windowLength length-windowBytes windows)
 
   pub plan-fileOf : planNumber (fileOf plan windows) ≡ plan
-  unfolding planNumber fileOf le16 bytes16
+  unfolding planNumber fileOf headerBytes le16 bytes16
   plan-fileOf = omega arith
 
   pub count-fileOf : windowCount (fileOf plan windows) ≡ length windows
-  unfolding windowCount fileOf le16 bytes16
+  unfolding windowCount fileOf headerBytes le16 bytes16
   count-fileOf = omega arith
 
   -- Its windows are those of the list.
   pub window-fileOf : (v : ℕ) (d : Window) → v < length windows → windowAt (fileOf plan windows) v ≡ getD windows v d
-  unfolding windowAt fileOf bytes16
+  unfolding windowAt fileOf
   window-fileOf v d h =
       ap windowOf
-      (ap (take windowLength) (drop-append-add (bytes16 plan ++ bytes16 (length windows)) (flatMap windowBytes windows) (windowLength * v))
+      (rw (← length-headerBytes plan (length windows))
+      (ap (take windowLength) (drop-append-add (headerBytes plan (length windows)) (flatMap windowBytes windows) (windowLength * v)))
       ∙ rw append-nil at (record-part windowBytes windowLength length-windowBytes windows v d [] h))
       ∙ windowOf-windowBytes (getD windows v d)
 

@@ -1,6 +1,6 @@
 -- Paper 01, "Plan file". A file is its list of bytes.
--- Vocabulary: headerLength, windowLength, fileLength, planNumber, windowCount, windowOf, windowPlace, windowAt, endOf; windowBytes,
--- fileOf.
+-- Vocabulary: headerLength, windowLength, fileLength, planNumber, windowCount, windowOf, windowPlace, windowAt, endOf; headerBytes,
+-- windowBytes, fileOf.
 use Prim.Native.Nat.{ℕ, _+_, _*_}
 use mathlib.Core.List.{List, _++_, flatMap}
 use lib.ListN.{length, take, drop}
@@ -41,9 +41,12 @@ windowAt file v = windowOf (take windowLength (drop (windowPlace v) file))
 unfoldable pub endOf : Window → ℕ
 endOf w = w .offset + w .length
 
--- The same bytes, written: a window, and the file of a plan number and a list of windows.
+-- The same bytes, written: the header, a window, and the file of a plan number and a list of windows.
+unfoldable pub headerBytes : (plan windows : ℕ) → List ℕ
+headerBytes plan windows = bytes16 plan ++ bytes16 windows
+
 unfoldable pub windowBytes : Window → List ℕ
 windowBytes w = bytes32 (w .offset) ++ bytes32 (w .length)
 
 unfoldable pub fileOf : (plan : ℕ) → List Window → List ℕ
-fileOf plan windows = bytes16 plan ++ bytes16 (length windows) ++ flatMap windowBytes windows
+fileOf plan windows = headerBytes plan (length windows) ++ flatMap windowBytes windows
