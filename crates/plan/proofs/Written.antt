@@ -68,10 +68,13 @@ module _ (plan : ℕ) (windows : List Window) where
   pub window-fileOf : (v : ℕ) (d : Window) → v < length windows → windowAt (fileOf plan windows) v ≡ getD windows v d
   unfolding windowAt fileOf
   window-fileOf v d h =
+      let header = headerBytes plan (length windows) in
+      let place : windowPlace v ≡ length header + windowLength * v = omega (arith, length-headerBytes plan (length windows)) in
+      let part : List ℕ → List ℕ = take windowLength in
       ap windowOf
-      (rw (← length-headerBytes plan (length windows))
-      (ap (take windowLength) (drop-append-add (headerBytes plan (length windows)) (flatMap windowBytes windows) (windowLength * v)))
-      ∙ rw append-nil at (record-part windowBytes windowLength length-windowBytes windows v d [] h))
+      (ap (λ i. part (drop i (header ++ flatMap windowBytes windows))) place
+      ∙ (ap part (drop-append-add header (flatMap windowBytes windows) (windowLength * v))
+      ∙ rw append-nil at (record-part windowBytes windowLength length-windowBytes windows v d [] h)))
       ∙ windowOf-windowBytes (getD windows v d)
 
 -- Each window of a list answers questions 4, 5 and 6 with "yes", where the one before the first has an offset.
