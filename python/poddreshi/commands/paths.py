@@ -1,0 +1,143 @@
+"""chain, neighbours, reach, same: answers from plans."""
+from typing import Optional, Sequence, Tuple
+
+from .. import calls, files
+from ..commandline import Command, Given, given, number, once
+from ..failures import ANSWERED, OTHERWISE
+from ..figures import PLAN_LIMIT
+from ..replies import Reply, aligned
+from ..wording import ordinal
+
+_COLUMNS = ("window", "name", "begin", "end")
+
+
+def _windows_text(plan: Given, positions: Sequence[int], bare: str) -> str:
+    """Positions on a line; where names or dates were asked for, a line for each window."""
+    if not positions or not (any(plan.names) or plan.clock.origin):
+        return bare
+    return aligned([plan.shown(position) for position in positions], right=(0,))
+
+
+def _chain(args) -> Reply:
+    plan = given(args)
+    first, second = plan.names.position(args.first), plan.names.position(args.second)
+    found = calls.chain(plan.file, first, second)
+    positions = found.positions or ()
+    rows = [(step, *plan.shown(position)) for step, position in enumerate(positions)]
+    data = {
+        "first": first,
+        "second": second,
+        "handovers": found.handovers.count,
+        "chain": None if found.positions is None else [plan.data(position) for position in positions],
+    }
+    status = OTHERWISE if found.positions is None else ANSWERED
+    return Reply(_windows_text(plan, positions, str(found)), ("step", *_COLUMNS), rows, data, status=status)
+
+
+def _neighbours(args) -> Reply:
+    plan = given(args)
+    at = plan.names.position(args.position)
+    found = calls.neighbours(plan.file, at)
+    data = {"position": at, "neighbours": [plan.data(position) for position in found.positions]}
+    rows = [plan.shown(position) for position in found.positions]
+    return Reply(_windows_text(plan, found.positions, str(found)), _COLUMNS, rows, data)
+
+
+def _reach(args) -> Reply:
+    at = number(args.position)
+    found = calls.reach(files.read(args.plan, PLAN_LIMIT), at)
+    return Reply(str(found), ("position", "at_most"), [(at, found.bound)], {"position": at, "at_most": found.bound})
+
+
+def _difference(first: bytes, second: bytes, windows: int) -> Tuple[int, int, int]:
+    """The first position whose neighbours differ, the first window that overlaps it in one plan alone, and in which."""
+    for position in range(windows):
+        found = [set(calls.neighbours(file, position).positions) for file in (first, second)]
+        if found[0] != found[1]:
+            other = min(found[0] ^ found[1])
+            return position, other, 0 if other in found[0] else 1
+    raise AssertionError("plans that are different differ in a pair")
+
+
+def _same(args) -> Reply:
+    once(args.first, args.second)
+    first, second = (files.read(name, PLAN_LIMIT) for name in (args.first, args.second))
+    if calls.same(first, second).same:
+        return Reply("same", ("answer",), [("same",)], {"same": True})
+    counts = [calls.validate(file).windows for file in (first, second)]
+    data = {"same": False, "windows": counts}
+    position: Optional[int] = None
+    other: Optional[int] = None
+    if counts[0] != counts[1]:
+        words = f"the first plan has {counts[0]} windows and the second {counts[1]}"
+    else:
+        position, other, holder = _difference(first, second, counts[0])
+        words = f"windows {position} and {other} overlap in the {ordinal(holder)} plan and not in the {ordinal(1 - holder)}"
+        data.update(position=position, other=other, overlap_in=ordinal(holder))
+    row = ("different", words, "" if position is None else position, "" if other is None else other)
+    return Reply(f"different: {words}", ("answer", "difference", "position", "other"), [row], data, status=OTHERWISE)
+
+
+def _chain_arguments(parser) -> None:
+    parser.plan()
+    parser.add_argument("first", metavar="FIRST", help="a position, or a name")
+    parser.add_argument("second", metavar="SECOND", help="a position, or a name")
+    parser.names()
+    parser.exit_code("no chain")
+    parser.forms()
+
+
+def _neighbours_arguments(parser) -> None:
+    parser.plan()
+    parser.add_argument("position", metavar="POSITION", help="a position, or a name")
+    parser.names()
+    parser.forms()
+
+
+def _reach_arguments(parser) -> None:
+    parser.plan()
+    parser.add_argument("position", metavar="POSITION", help="a window's position in the plan")
+    parser.forms()
+
+
+def _same_arguments(parser) -> None:
+    parser.add_argument("first", metavar="PLAN", help="a plan file")
+    parser.add_argument("second", metavar="PLAN", help="another")
+    parser.exit_code("different")
+    parser.forms()
+
+
+COMMANDS = [
+    Command(
+        "chain",
+        "a shortest chain between two windows, from the later to the earlier",
+        _chain_arguments,
+        _chain,
+        ["poddreshi chain examples/plan-12.plan 1 5", "poddreshi chain year.plan 3 9 --names year.txt --origin 2026-01-01"],
+        "Of the shortest chains it is the one with the earliest window at each step. With --names or --origin there is a line\n"
+        "for each window: position, name, begin and end.",
+    ),
+    Command(
+        "neighbours",
+        "the windows that overlap one window",
+        _neighbours_arguments,
+        _neighbours,
+        ["poddreshi neighbours examples/plan-12.plan 2"],
+    ),
+    Command(
+        "reach",
+        "a bound on the handovers between any two windows of a window's component",
+        _reach_arguments,
+        _reach,
+        ["poddreshi reach examples/plan-12.plan 5"],
+        "It is a bound: no two windows are further apart, and perhaps no two are so far.",
+    ),
+    Command(
+        "same",
+        "whether the same pairs of windows overlap in two plans",
+        _same_arguments,
+        _same,
+        ["poddreshi same examples/plan-12.plan other.plan --exit-code"],
+        "Where they differ, the first position and the first window that overlaps it in one of the plans alone are named.",
+    ),
+]
