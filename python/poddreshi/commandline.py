@@ -50,7 +50,10 @@ class _Tell(argparse.Action):
 class Parser(argparse.ArgumentParser):
     def __init__(self, **options):
         super().__init__(
-            add_help=False, allow_abbrev=False, formatter_class=argparse.RawDescriptionHelpFormatter, **options
+            add_help=False,
+            allow_abbrev=False,
+            formatter_class=lambda prog: argparse.RawDescriptionHelpFormatter(prog, max_help_position=26, width=110),
+            **options,
         )
         self.add_argument("-h", "--help", action=_Tell, tells=Parser.format_help, help="show this and exit")
 
