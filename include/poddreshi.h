@@ -27,6 +27,8 @@
 #ifndef PODDRESHI_H
 #define PODDRESHI_H
 
+#define PODDRESHI_VERSION "1.0.0"
+
 #include <stddef.h>
 #include <stdint.h>
 

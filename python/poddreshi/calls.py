@@ -7,7 +7,7 @@ from typing import NamedTuple, Optional, Tuple
 
 from . import library
 from .figures import PLAN_NUMBER_LIMIT, TAG_LENGTH, WINDOWS_LIMIT
-from .library import Kind, lend, position, room, table
+from .library import Kind, flat, lend, position, room, table
 from .refusals import Asked, Refused
 from .wording import counted
 
@@ -188,7 +188,7 @@ def lookup(tags, at: int) -> bytes:
     """The tag at a position of a tag file."""
     offset = library.offset()
     _ask("lookup", Asked(tag_file=tags, positions=[at]), *lend(tags), position(at), offset)
-    return bytes(memoryview(tags).cast("B")[offset.value : offset.value + TAG_LENGTH])
+    return bytes(flat(tags)[offset.value : offset.value + TAG_LENGTH])
 
 
 def read(tag) -> Tag:

@@ -3,6 +3,7 @@ import contextlib
 import errno
 import os
 import stat
+import sys
 import tempfile
 from pathlib import Path
 from typing import BinaryIO, Iterator, Optional
@@ -21,6 +22,8 @@ def hold_standard_streams() -> None:
         except OSError:
             os.open(os.devnull, os.O_RDWR)  # the lowest place that is free, which is this one
             _closed.add(descriptor)
+    if sys.stderr is None:
+        sys.stderr = open(os.devnull, "w", encoding="utf-8")
 
 
 def _read_to(stream: BinaryIO, limit: int) -> bytes:
@@ -108,15 +111,15 @@ def write(name: Optional[str], data: bytes) -> None:
         _write_standard_output(data)
         return
     try:
-        path = Path(os.path.realpath(name))
-        if path.exists() and not path.is_file():
-            descriptor = os.open(name, os.O_WRONLY)
+        # /dev/stdout may lead to a file that others write to as well, so it is not replaced.
+        if name.startswith(("/dev/", "/proc/")) or os.path.exists(name) and not os.path.isfile(name):
+            descriptor = os.open(name, os.O_WRONLY | os.O_APPEND)
             try:
                 _write_all(descriptor, data)
             finally:
                 os.close(descriptor)
         else:
-            replace(path, data)
+            replace(Path(os.path.realpath(name)), data)
     except OSError as error:
         raise Failure.of(name, error) from None
     except ValueError:

@@ -75,13 +75,19 @@ def ask(name: str, *arguments) -> Tuple[Kind, List[int]]:
     return Kind(kind), numbers
 
 
+def flat(data):
+    """Bytes, or a view of them that lies in one piece."""
+    if isinstance(data, bytes):
+        return data
+    view = memoryview(data)
+    return view.cast("B") if view.c_contiguous and view.nbytes else view.tobytes()
+
+
 def lend(data) -> tuple:
-    """Bytes to be read, and how many. What is writable or bytes is lent as it lies; ctypes cannot lend a read-only view."""
-    if not isinstance(data, bytes):
-        view = memoryview(data)
-        if view.nbytes and view.c_contiguous and not view.readonly:
-            return (ctypes.c_uint8 * view.nbytes).from_buffer(view), view.nbytes
-        data = view.tobytes()
+    """Bytes to be read, and how many. What can be is lent as it lies; ctypes cannot lend a view that is read-only."""
+    data = flat(data)
+    if isinstance(data, memoryview):
+        data = data.tobytes() if data.readonly else (ctypes.c_uint8 * data.nbytes).from_buffer(data)
     return data, len(data)
 
 

@@ -15,8 +15,8 @@ class Names(List[str]):
     """A name for each position, which may be empty."""
 
     def label(self, position: int) -> str:
-        """`window 3`, or with its name `window 3, North pier`."""
-        return f"window {position}" + (f", {self[position]}" if self[position] else "")
+        """`window 3`, or with its name `window 3 (North pier)`."""
+        return f"window {position}" + (f" ({self[position]})" if self[position] else "")
 
     def position(self, word: str) -> int:
         """The position that a word of the command means: a number, or the name of one window."""

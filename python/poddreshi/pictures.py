@@ -2,7 +2,7 @@
 
 Nothing is judged here, only placed: which windows overlap, a window's parent and the chain come from the library.
 """
-from typing import List, NamedTuple, Optional, Sequence, Tuple
+from typing import Dict, FrozenSet, List, NamedTuple, Optional, Sequence, Tuple
 
 from .axes import Axis, marks
 from .calls import Tree
@@ -39,24 +39,27 @@ class Scene(NamedTuple):
             return f"minutes {window.offset:,} to {window.end:,}"
         return f"{self.clock.show(window.offset)} to {self.clock.show(window.end)}"
 
-    def marked(self, position: int) -> bool:
-        return self.ends is not None and (position in self.ends or position in (self.chain or ()))
+    @property
+    def marked(self) -> FrozenSet[int]:
+        """The windows that stand out."""
+        return frozenset((*(self.ends or ()), *(self.chain or ())))
 
 
 class Panel(NamedTuple):
     """Rows of windows with an axis of their own."""
 
-    rows: Sequence[int]
+    rows: Dict[int, int]  # position to row
     axis: Axis
     top: float
     row: float
+    marked: FrozenSet[int]
 
     @property
     def bottom(self) -> float:
         return self.top + self.row * len(self.rows)
 
     def middle(self, position: int) -> float:
-        return self.top + self.row * (self.rows.index(position) + 0.5)
+        return self.top + self.row * (self.rows[position] + 0.5)
 
 
 def title(scene: Scene) -> str:
@@ -85,11 +88,11 @@ def draw(scene: Scene) -> str:
     right = left + scene.chart
     wide = right + 150 + MARGIN
     drawing = Drawing()
-    top = _heading(drawing, scene, wide)
+    top, marked = _heading(drawing, scene, wide), scene.marked
     for positions in _panels(scene, rows):
         start, end = scene.span or (0, max(window.end for window in scene.windows))
         axis = Axis([scene.windows[at] for at in positions], start, end, left, right)
-        panel = Panel(positions, axis, top + AXIS, row)
+        panel = Panel({position: at for at, position in enumerate(positions)}, axis, top + AXIS, row, marked)
         _panel(drawing, scene, panel, wide)
         top = panel.bottom + BELOW
     return drawing.finish(wide, top + MARGIN, title(scene), description(scene))
@@ -150,10 +153,9 @@ def _panel(drawing: Drawing, scene: Scene, panel: Panel, wide: float) -> None:
 
 def _bands(drawing: Drawing, scene: Scene, panel: Panel, wide: float) -> None:
     """Components are contiguous, so each is a band of rows; every second one is shaded."""
-    start = 0
-    for at in range(1, len(panel.rows) + 1):
-        component = scene.tree.component_of[panel.rows[start]]
-        if at < len(panel.rows) and scene.tree.component_of[panel.rows[at]] == component:
+    components, start = [scene.tree.component_of[position] for position in panel.rows], 0
+    for at, component in enumerate(components, 1):
+        if at < len(components) and components[at] == component:
             continue
         top, high = panel.top + panel.row * start, panel.row * (at - start)
         if component % 2 == 0:
@@ -214,7 +216,7 @@ def _colour(scene: Scene, position: int) -> str:
 
 
 def _bar(drawing: Drawing, scene: Scene, panel: Panel, position: int) -> None:
-    window, marked = scene.windows[position], scene.marked(position)
+    window, marked = scene.windows[position], position in panel.marked
     left, right = panel.axis.place(window.offset), panel.axis.place(window.end)
     wide = max(right - left, BAR_LEAST)
     high = panel.row * 0.62

@@ -1,8 +1,8 @@
 """SVG by hand: numbers that are finite and short, text that is escaped and never wider than its room."""
+import html
 import math
 import unicodedata
 from typing import List
-from xml.sax.saxutils import escape, quoteattr
 
 _NOT_IN_XML = {code: "\N{REPLACEMENT CHARACTER}" for code in (*range(9), 11, 12, *range(14, 32), 0xFFFE, 0xFFFF)}
 
@@ -15,7 +15,8 @@ def number(value: float) -> str:
 
 
 def clean(words: str) -> str:
-    return escape(words.translate(_NOT_IN_XML))
+    """Words for a text or an attribute."""
+    return html.escape(words.translate(_NOT_IN_XML))
 
 
 def width(words: str, size: float) -> float:
@@ -37,9 +38,13 @@ def fitted(words: str, size: float, room: float) -> str:
     """The words, cut to the room with an ellipsis where they are too long."""
     if width(words, size) <= room:
         return words
-    while words and width(words + "…", size) > room:
-        words = words[:-1]
-    return words.rstrip() + "…" if words else ""
+    kept, taken = "", width("…", size)
+    for character in words:
+        taken += width(character, size)
+        if taken > room:
+            break
+        kept += character
+    return kept.rstrip() + "…" if kept else ""
 
 
 class Drawing:
@@ -49,7 +54,7 @@ class Drawing:
         self.elements: List[str] = []
 
     def element(self, name: str, title: str = "", **attributes) -> None:
-        written = "".join(f" {key.replace('_', '-')}={quoteattr(_value(value))}" for key, value in attributes.items())
+        written = "".join(f' {key.replace("_", "-")}="{_value(value)}"' for key, value in attributes.items())
         self.elements.append(f"<{name}{written}><title>{clean(title)}</title></{name}>" if title else f"<{name}{written}/>")
 
     def line(self, x1: float, y1: float, x2: float, y2: float, stroke: str, stroke_width: float = 1, **more) -> None:

@@ -37,6 +37,7 @@ class Faulty(Exception):
     def __init__(self, faults: List[Fault]):
         super().__init__("; ".join(map(str, faults)))
         self.faults = sorted(faults, key=lambda fault: fault.line)
+        self.source = "the text"
 
 
 class Entry(NamedTuple):
