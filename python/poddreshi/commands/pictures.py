@@ -1,4 +1,6 @@
 """draw: a plan as a picture."""
+from typing import Optional, Tuple
+
 from .. import calls
 from ..commandline import Command, Given, given
 from ..failures import Mistake
@@ -6,13 +8,14 @@ from ..pictures import Scene, draw
 from ..replies import Reply
 
 
-def _span(args, plan: Given) -> tuple:
+def _span(args, plan: Given) -> Optional[Tuple[int, int]]:
     """The minutes that are asked for, or None for all."""
     if args.since is None and args.until is None:
         return None
     try:
         start = 0 if args.since is None else plan.clock.offset(args.since)
-        end = max((window.end for window in plan.windows), default=1) if args.until is None else plan.clock.offset(args.until)
+        last = max((window.end for window in plan.windows), default=0)
+        end = max(last, start + 1) if args.until is None else plan.clock.offset(args.until)
     except ValueError as error:
         raise Mistake(str(error)) from None
     if start >= end:
