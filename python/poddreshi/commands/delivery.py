@@ -6,7 +6,7 @@ from ..replies import Reply
 
 
 def _build(args) -> Reply:
-    return Reply(f"the library is in {building.ensure(places.checkout()) / 'lib'}")
+    return Reply(str(building.ensure(places.checkout()) / "lib"))
 
 
 def _install(args) -> Reply:
@@ -26,7 +26,8 @@ COMMANDS = [
         lambda parser: None,
         _build,
         ["./poddreshi build"],
-        f"Every other command does this by itself where it is needed. It takes {building.HOW_LONG}.",
+        f"Prints the folder of the libraries. Every other command does this by itself where it is needed; it takes\n"
+        f"{building.HOW_LONG}.",
         needs_library=False,
     ),
     Command(
