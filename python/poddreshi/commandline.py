@@ -2,17 +2,18 @@
 place where a reply is written and an exit status chosen."""
 import argparse
 import contextlib
+import os
 import signal
 import sys
 from datetime import datetime
-from typing import Callable, Iterator, List, NamedTuple, Optional, Sequence
+from typing import Callable, Iterator, NamedTuple, Optional, Sequence
 
 from . import building, calls, failures, files, figures, names, places, times
 from ._version import __version__
 from .failures import Failure, Mistake
+from .given import Given
 from .library import LibraryMissing
-from .names import Names
-from .plans import Window, windows_of
+from .plans import windows_of
 from .refusals import Refused
 from .replies import Reply
 from .texts import Faulty
@@ -100,29 +101,6 @@ def number(words: str, limit: Optional[int] = None, thing: str = "a position") -
     if limit is not None and int(words) > limit:
         raise Mistake(f"{thing} is at most {limit:,}")
     return int(words)
-
-
-class Given(NamedTuple):
-    """A plan that a subcommand answers from."""
-
-    file: bytes
-    number: int
-    windows: List[Window]
-    names: Names
-    clock: Clock
-
-    def shown(self, position: int) -> list:
-        """A row of a table: the window, its name, begin and end."""
-        window = self.windows[position]
-        return [str(position), self.names[position], self.clock.show(window.offset), self.clock.show(window.end)]
-
-    def data(self, position: int) -> dict:
-        """The same for JSON."""
-        window = self.windows[position]
-        data = {"position": position, "name": self.names[position], "offset": window.offset, "length": window.length}
-        if self.clock.origin:
-            data.update(begin=self.clock.show(window.offset), end=self.clock.show(window.end))
-        return data
 
 
 def given(args: argparse.Namespace) -> Given:
@@ -216,3 +194,8 @@ def main(commands: Sequence[Command], words: Optional[Sequence[str]] = None) -> 
         return failures.FAILED
     except KeyboardInterrupt:
         return failures.INTERRUPTED
+    except Exception:
+        if os.environ.get("PODDRESHI_TRACEBACK"):
+            raise
+        say("poddreshi: something went wrong that should not have; PODDRESHI_TRACEBACK=1 shows where")
+        return failures.FAILED

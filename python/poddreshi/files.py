@@ -2,6 +2,7 @@
 import contextlib
 import errno
 import os
+import shutil
 import stat
 import sys
 import tempfile
@@ -78,14 +79,19 @@ def _write_standard_output(data: bytes) -> None:
         raise Failure.of(STANDARD_OUTPUT, error) from None
 
 
+def _allowed(mode: int) -> int:
+    """A mode without what the umask takes away."""
+    mask = os.umask(0)
+    os.umask(mask)
+    return mode & ~mask
+
+
 def _mode(path: Path) -> int:
     """That of the file that is replaced, or of a new one."""
     try:
         return stat.S_IMODE(path.stat().st_mode)
     except FileNotFoundError:
-        mask = os.umask(0)
-        os.umask(mask)
-        return 0o666 & ~mask
+        return _allowed(0o666)
 
 
 def replace(path: Path, data: bytes, mode: Optional[int] = None) -> None:
@@ -129,15 +135,12 @@ def write(name: Optional[str], data: bytes) -> None:
 @contextlib.contextmanager
 def new_folder(path: Path) -> Iterator[Path]:
     """A folder to fill, which takes its name when all of it is there. One of that name may stand there if it is empty."""
-    import shutil
-
+    path = Path(os.path.realpath(path))
     path.parent.mkdir(parents=True, exist_ok=True)
     beside = Path(tempfile.mkdtemp(prefix=f".{path.name[:64]}.", dir=path.parent))
     try:
         yield beside
-        mask = os.umask(0)
-        os.umask(mask)
-        os.chmod(beside, 0o777 & ~mask)
+        os.chmod(beside, _allowed(0o777))
         os.rename(beside, path)
     finally:
         if beside.exists():

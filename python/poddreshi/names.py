@@ -11,7 +11,7 @@ from .wording import counted
 _POSITION = re.compile(r"\d{1,20}", re.ASCII)
 
 
-class Names(List[str]):
+class Names(list):
     """A name for each position, which may be empty."""
 
     def label(self, position: int) -> str:

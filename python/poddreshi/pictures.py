@@ -6,10 +6,9 @@ from typing import Dict, FrozenSet, List, NamedTuple, Optional, Sequence, Tuple
 
 from .axes import Axis, marks
 from .calls import Tree
-from .names import Names
-from .plans import Window
+from .given import Given, shared_minutes
 from .svg import Drawing, width
-from .times import Clock, length_words
+from .times import length_words
 from .wording import counted
 
 COLOURS = ("#0072b2", "#d55e00", "#009e73", "#cc79a7", "#8a6d00", "#56b4e9", "#5b3a9e", "#7f7f7f")
@@ -22,22 +21,13 @@ ROWS = ((64, 22, 32), (256, 16, 40), (None, 12, 48))  # up to so many windows: h
 class Scene(NamedTuple):
     """What is drawn."""
 
-    number: int
-    windows: Sequence[Window]
-    names: Names
-    clock: Clock
+    plan: Given
     tree: Tree
     shown: Sequence[int]
     ends: Optional[Tuple[int, int]] = None
     chain: Optional[Sequence[int]] = None
     span: Optional[Tuple[int, int]] = None  # minutes to which the picture is cut
     chart: float = 1000  # width of the bars' part
-
-    def interval(self, position: int) -> str:
-        window = self.windows[position]
-        if self.clock.origin is None:
-            return f"minutes {window.offset:,} to {window.end:,}"
-        return f"{self.clock.show(window.offset)} to {self.clock.show(window.end)}"
 
     @property
     def marked(self) -> FrozenSet[int]:
@@ -64,20 +54,20 @@ class Panel(NamedTuple):
 
 def title(scene: Scene) -> str:
     if scene.ends is None:
-        return f"Plan {scene.number}: {counted(len(scene.windows), 'window')}, {counted(scene.tree.components, 'component')}"
-    between = " and ".join(scene.names.label(end) for end in scene.ends)
+        return f"Plan {scene.plan.number}: {counted(len(scene.plan.windows), 'window')}, {counted(scene.tree.components, 'component')}"
+    between = " and ".join(scene.plan.names.label(end) for end in scene.ends)
     if scene.chain is None:
-        return f"Plan {scene.number}: no chain between {between}"
-    return f"Plan {scene.number}: {counted(len(scene.chain) - 1, 'handover')} between {between}"
+        return f"Plan {scene.plan.number}: no chain between {between}"
+    return f"Plan {scene.plan.number}: {counted(len(scene.chain) - 1, 'handover')} between {between}"
 
 
 def description(scene: Scene) -> str:
     """All of the chain, also where the picture is cut."""
-    if not scene.windows:
+    if not scene.plan.windows:
         return "The plan has no windows."
     if scene.chain is None:
-        return f"{counted(len(scene.shown), 'window')} of {len(scene.windows):,} are shown."
-    steps = "; ".join(f"{scene.names.label(at)}, {scene.interval(at)}" for at in scene.chain)
+        return f"{counted(len(scene.shown), 'window')} of {len(scene.plan.windows):,} are shown."
+    steps = "; ".join(f"{scene.plan.names.label(at)}, {scene.plan.interval(at)}" for at in scene.chain)
     return f"The chain, from the later window to the earlier: {steps}."
 
 
@@ -90,8 +80,8 @@ def draw(scene: Scene) -> str:
     drawing = Drawing()
     top, marked = _heading(drawing, scene, wide), scene.marked
     for positions in _panels(scene, rows):
-        start, end = scene.span or (0, max(window.end for window in scene.windows))
-        axis = Axis([scene.windows[at] for at in positions], start, end, left, right)
+        start, end = scene.span or (0, max(window.end for window in scene.plan.windows))
+        axis = Axis([scene.plan.windows[at] for at in positions], start, end, left, right)
         panel = Panel({position: at for at, position in enumerate(positions)}, axis, top + AXIS, row, marked)
         _panel(drawing, scene, panel, wide)
         top = panel.bottom + BELOW
@@ -105,7 +95,7 @@ def _label_width(scene: Scene, row: float) -> float:
 
 
 def _label(scene: Scene, position: int) -> str:
-    return f"{scene.names[position]}  {position}".strip()
+    return f"{scene.plan.names[position]}  {position}".strip()
 
 
 def _font(row: float) -> float:
@@ -130,7 +120,7 @@ def _panels(scene: Scene, rows: int) -> List[List[int]]:
 def _heading(drawing: Drawing, scene: Scene, wide: float) -> float:
     room = wide - 2 * MARGIN
     drawing.text(MARGIN, 30, title(scene), 20, INK, room)
-    if not scene.windows or not scene.shown:
+    if not scene.plan.windows or not scene.shown:
         drawing.text(MARGIN, 52, "no window to show", 13, GREY, room)
         return 60
     below = "a line leads from a window up to its parent"
@@ -168,10 +158,10 @@ def _bands(drawing: Drawing, scene: Scene, panel: Panel, wide: float) -> None:
 
 def _axis(drawing: Drawing, scene: Scene, panel: Panel) -> None:
     axis = panel.axis
-    units = ("", "minutes") if scene.clock.origin is None else ("date", "time")
+    units = ("", "minutes") if scene.plan.clock.origin is None else ("date", "time")
     for unit, above in zip(units, (22, 9)):
         drawing.text(MARGIN, panel.top - above, unit, 11, GREY, axis.left - MARGIN)
-    for mark in marks(axis, scene.clock):
+    for mark in marks(axis, scene.plan.clock):
         x = axis.place(mark.minute)
         drawing.line(x, panel.top - 4, x, panel.bottom + 4, FAINT)
         drawing.text(x, panel.top - 9, mark.label, 11, GREY, 74, "middle")
@@ -184,7 +174,7 @@ def _axis(drawing: Drawing, scene: Scene, panel: Panel) -> None:
 def _cut(drawing: Drawing, scene: Scene, panel: Panel, stretch) -> None:
     """A stretch in which no window is: a white band, with two strokes on the axis."""
     minutes = stretch.end - stretch.start
-    words = f"{minutes:,} minutes" if scene.clock.origin is None else length_words(minutes)
+    words = f"{minutes:,} minutes" if scene.plan.clock.origin is None else length_words(minutes)
     drawing.element(
         "rect",
         title=f"no window for {words}",
@@ -203,7 +193,7 @@ def _parents(drawing: Drawing, scene: Scene, panel: Panel) -> None:
     """The parent covers the minute at which the window begins, so the line stands on that minute."""
     opacity = 0.3 if scene.ends is not None else 0.75
     for position in panel.rows:
-        parent, offset = scene.tree.parents[position], scene.windows[position].offset
+        parent, offset = scene.tree.parents[position], scene.plan.windows[position].offset
         if parent == position or not panel.axis.start <= offset <= panel.axis.end:
             continue
         above = panel.middle(parent) if parent in panel.rows else panel.top - 4
@@ -216,13 +206,13 @@ def _colour(scene: Scene, position: int) -> str:
 
 
 def _bar(drawing: Drawing, scene: Scene, panel: Panel, position: int) -> None:
-    window, marked = scene.windows[position], position in panel.marked
+    window, marked = scene.plan.windows[position], position in panel.marked
     left, right = panel.axis.place(window.offset), panel.axis.place(window.end)
     wide = max(right - left, BAR_LEAST)
     high = panel.row * 0.62
     parent = scene.tree.parents[position]
     told = (
-        f"{scene.names.label(position)}: {scene.interval(position)}, component {scene.tree.component_of[position]}, "
+        f"{scene.plan.names.label(position)}: {scene.plan.interval(position)}, component {scene.tree.component_of[position]}, "
         f"depth {scene.tree.depths[position]}, {'a root' if parent == position else f'parent {parent}'}"
     )
     outline = {"stroke": INK, "stroke_width": 1.5} if marked else {}
@@ -256,7 +246,7 @@ def _handovers(drawing: Drawing, scene: Scene, panel: Panel) -> None:
     edge of this one."""
     chain = scene.chain or ()
     for later, earlier in zip(chain, chain[1:]):
-        shared = shared_minutes(scene.windows[later], scene.windows[earlier])
+        shared = shared_minutes(scene.plan.windows[later], scene.plan.windows[earlier])
         minute = sum(shared) / 2
         if not panel.axis.start <= minute <= panel.axis.end:
             continue
@@ -270,8 +260,3 @@ def _handovers(drawing: Drawing, scene: Scene, panel: Panel) -> None:
         for at in here:
             ring = {"r": 3.4 if panel.row > 16 else 2.6, "fill": "#ffffff", "stroke": INK, "stroke_width": 1.5}
             drawing.element("circle", cx=x, cy=panel.middle(at), **ring)
-
-
-def shared_minutes(one: Window, other: Window) -> Tuple[int, int]:
-    """The minutes that two overlapping windows share: the first of them, and the one after the last."""
-    return max(one.offset, other.offset), min(one.end, other.end)

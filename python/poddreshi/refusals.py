@@ -1,4 +1,4 @@
-"""Refusals in words. QUESTIONS is the one table of them; docs/FORMAT.md has the questions too."""
+"""Refusals in words. QUESTIONS is the one table of them; docs/FORMAT.md has the same."""
 import struct
 from typing import Dict, NamedTuple, Optional, Sequence
 
@@ -21,7 +21,7 @@ QUESTIONS: Dict[int, Question] = {
         "{the_plan} is said to have {windows}; a plan has at most {WINDOWS_LIMIT:,}",
     ),
     3: Question(
-        "Has the file exactly {HEADER_LENGTH} + {WINDOW_LENGTH} × n bytes?",
+        "Has the file exactly {HEADER_LENGTH} + {WINDOW_LENGTH} n bytes?",
         "{the_plan} has {bytes}; with {windows} it has exactly {wanted:,}",
     ),
     4: Question(
@@ -29,15 +29,14 @@ QUESTIONS: Dict[int, Question] = {
         "window {position} of {the_plan} has length {length:,}; a length is at least {LENGTH_LEAST}",
     ),
     5: Question(
-        "Is the true sum offset + length at most {END_LIMIT:,}?",
+        "Is offset + length at most {END_LIMIT:,}?",
         "window {position} of {the_plan} ends at {end:,}; an end is at most {END_LIMIT:,}",
     ),
     6: Question(
         "Is the offset at least that of the window before?",
-        "window {position} of {the_plan} begins at {offset:,}, earlier than the window before it, at {before:,}; "
-        "windows stand in order of their offsets",
+        "window {position} of {the_plan} begins at {offset:,}, earlier than the window before it, at {before:,}",
     ),
-    7: Question("Is each position below the number of windows?", "there is no window {at}: {holder}"),
+    7: Question("Is the position below the number of windows or tags?", "there is no window {at}: {holder}"),
     8: Question("Does each table hold what is to be written?", "a table has too little room for what is to be written"),
     9: Question("Has the tag {TAG_LENGTH} bytes, the tag file a multiple of {TAG_LENGTH}?", "{the_tag} has {bytes}; {wanted}"),
     10: Question(

@@ -2,9 +2,8 @@
 from typing import List, NamedTuple, Optional, Sequence, Tuple, Union
 
 from . import calls
-from .commandline import Given
 from .failures import ANSWERED, OTHERWISE, REFUSED, Mistake
-from .pictures import shared_minutes
+from .given import Given, shared_minutes
 from .refusals import Refused
 from .replies import Reply, aligned
 from .texts import Fault, Faulty, Row, clean, csv_rows, lines_of, words_of

@@ -5,6 +5,7 @@ from typing import Dict, List
 
 MADE = ("poddreshi", "listing")  # what is built: a library and a program
 PARTS = ("src", "specs", "proofs")
+RECIPE = 1  # raised where the way of building changes
 
 
 def _needs(root: Path) -> Dict[str, List[str]]:
@@ -30,7 +31,7 @@ def crates(root: Path) -> Dict[str, List[str]]:
 
 def digest(root: Path) -> str:
     """A name for the sources as they stand."""
-    total = hashlib.sha256()
+    total = hashlib.sha256(f"recipe {RECIPE}\n".encode())
     for name, needed in sorted(crates(root).items()):
         total.update(f"{name}: {' '.join(needed)}\n".encode())
         for part in PARTS:

@@ -67,14 +67,12 @@ class Faults(unittest.TestCase):
         text = b"5 5\n4 0\n9\nx 1\n6 x\n\xff 1\n3 1\n10000000 1\n2026-01-01 08:00 1\n4294967296 1\n7 4294967296\n8 1 a\x07\n9 1\n"
         self.assertEqual(faults(text), [
             "line 2: refused by question 4: window 1 of the plan has length 0; a length is at least 1",
-            "line 2: refused by question 6: window 1 of the plan begins at 4, earlier than the window before it, at 5; "
-            "windows stand in order of their offsets",
+            "line 2: refused by question 6: window 1 of the plan begins at 4, earlier than the window before it, at 5",
             "line 3: a line has an offset and a length, and may have a name",
             'line 4: "x" is no offset; write minutes (1440) or a date (2026-02-06 08:00)',
             'line 5: "x" is no length; write minutes (90), or days, hours and minutes (2d, 48h, 1h30m)',
             "line 6: is no text in UTF-8",
-            "line 7: refused by question 6: window 2 of the plan begins at 3, earlier than the window before it, at 4; "
-            "windows stand in order of their offsets",
+            "line 7: refused by question 6: window 2 of the plan begins at 3, earlier than the window before it, at 4",
             "line 8: refused by question 5: window 3 of the plan ends at 10,000,001; an end is at most 10,000,000",
             'line 9: "2026-01-01 08:00" is a date; say with --origin which date minute 0 is',
             "line 10: an offset of 4,294,967,296 does not fit a plan file, which holds up to 4,294,967,295",

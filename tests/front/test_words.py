@@ -1,10 +1,22 @@
 """Refusals in words: what is wrong, and where."""
 import re
+import string
 import unittest
 
 from support import PLAN_12, ROOT, TAGS_12, Case, plan
 
-from poddreshi import refusals
+from poddreshi import figures, refusals
+
+
+def as_in_the_document(template: str) -> str:
+    """The figures filled in, and the names left as they are."""
+    parts = []
+    for literal, name, form, _ in string.Formatter().parse(template):
+        parts.append(literal)
+        if name is not None:
+            figure = getattr(figures, name, None)
+            parts.append(f"{{{name}}}" if figure is None else format(figure, form))
+    return "".join(parts)
 
 
 class Words(Case):
@@ -19,8 +31,7 @@ class Words(Case):
             plan((5, 5), (4, 0)): "4: window 1 of the plan has length 0; a length is at least 1",
             plan((9999999, 2)): "5: window 0 of the plan ends at 10,000,001; an end is at most 10,000,000",
             plan((2**32 - 1, 2**32 - 1)): "5: window 0 of the plan ends at 8,589,934,590; an end is at most 10,000,000",
-            plan((5, 5), (4, 5)): "6: window 1 of the plan begins at 4, earlier than the window before it, at 5; "
-            "windows stand in order of their offsets",
+            plan((5, 5), (4, 5)): "6: window 1 of the plan begins at 4, earlier than the window before it, at 5",
         }.items():
             self.refused(words, "tags", "-", stdin=file)
 
@@ -69,21 +80,16 @@ class Words(Case):
                 self.assertTrue(str(refusals.Refused(number, input, 3)).startswith(f"refused by question {number}: "))
                 self.assertNotIn("{", str(refusals.Refused(number, input, 3)))
 
-    def test_the_formats_document_has_the_same_questions(self):
+    def test_the_formats_document_has_the_same_words(self):
         text = (ROOT / "docs" / "FORMAT.md").read_text(encoding="utf-8")
-        rows = dict(re.findall(r"^\| *(\d+) *\| *([^|]+?) *\|", text, re.M))
-        rows = {int(number): words for number, words in rows.items() if "?" in words}
-        if not rows:
-            self.skipTest("docs/FORMAT.md has no table of the questions")
-
-        def plain(words):
-            """Without signs that are set in one way or another, and what the document adds behind the question."""
-            return re.sub(r"[`*×]", "", words).split("?")[0].replace("  ", " ").replace(", or of tags", "")
-
-        self.assertEqual(
-            {number: plain(words) for number, words in rows.items()},
-            {number: plain(refusals.question(number)) for number in refusals.QUESTIONS},
-        )
+        _, found, section = text.partition("\n## Words for refusals\n")
+        if not found:
+            self.skipTest("docs/FORMAT.md has no words for refusals")
+        row = re.compile(r"^\| (\d+) \| ([^|]+) \|", re.M)
+        asked = {int(number): words for number, words in row.findall(text) if words.endswith("?")}
+        self.assertEqual(asked, {number: refusals.question(number) for number in refusals.QUESTIONS})
+        said = {int(number): words for number, words in row.findall(section.partition("\n## ")[0])}
+        self.assertEqual(said, {number: as_in_the_document(each.says) for number, each in refusals.QUESTIONS.items()})
 
 
 if __name__ == "__main__":

@@ -1,10 +1,11 @@
 """chain, neighbours, reach, same: answers from plans."""
-from typing import Optional, Sequence, Tuple
+from typing import Sequence, Tuple
 
 from .. import calls, files
-from ..commandline import Command, Given, given, number, once
+from ..commandline import Command, given, number, once
 from ..failures import ANSWERED, OTHERWISE
 from ..figures import PLAN_LIMIT
+from ..given import Given
 from ..replies import Reply, aligned
 from ..wording import ordinal
 
@@ -49,33 +50,32 @@ def _reach(args) -> Reply:
     return Reply(str(found), ("position", "at_most"), [(at, found.bound)], {"position": at, "at_most": found.bound})
 
 
-def _difference(first: bytes, second: bytes, windows: int) -> Tuple[int, int, int]:
+def _difference(plans: Sequence[bytes], windows: int) -> Tuple[int, int, int]:
     """The first position whose neighbours differ, the first window that overlaps it in one plan alone, and in which."""
     for position in range(windows):
-        found = [set(calls.neighbours(file, position).positions) for file in (first, second)]
-        if found[0] != found[1]:
-            other = min(found[0] ^ found[1])
-            return position, other, 0 if other in found[0] else 1
-    raise AssertionError("plans that are different differ in a pair")
+        first, second = (set(calls.neighbours(file, position).positions) for file in plans)
+        if first != second:
+            other = min(first ^ second)
+            return position, other, 0 if other in first else 1
+    raise ValueError("plans that are different differ in a pair")
 
 
 def _same(args) -> Reply:
     once(args.first, args.second)
-    first, second = (files.read(name, PLAN_LIMIT) for name in (args.first, args.second))
-    if calls.same(first, second).same:
-        return Reply("same", ("answer",), [("same",)], {"same": True})
-    counts = [calls.validate(file).windows for file in (first, second)]
+    plans = [files.read(name, PLAN_LIMIT) for name in (args.first, args.second)]
+    header = ("answer", "difference", "position", "other")
+    if calls.same(*plans).same:
+        return Reply("same", header, [("same", "", "", "")], {"same": True})
+    counts = [calls.validate(file).windows for file in plans]
     data = {"same": False, "windows": counts}
-    position: Optional[int] = None
-    other: Optional[int] = None
     if counts[0] != counts[1]:
-        words = f"the first plan has {counts[0]} windows and the second {counts[1]}"
+        words, pair = f"the first plan has {counts[0]} windows and the second {counts[1]}", ("", "")
     else:
-        position, other, holder = _difference(first, second, counts[0])
-        words = f"windows {position} and {other} overlap in the {ordinal(holder)} plan and not in the {ordinal(1 - holder)}"
-        data.update(position=position, other=other, overlap_in=ordinal(holder))
-    row = ("different", words, "" if position is None else position, "" if other is None else other)
-    return Reply(f"different: {words}", ("answer", "difference", "position", "other"), [row], data, status=OTHERWISE)
+        *pair, holder = _difference(plans, counts[0])
+        there, elsewhere = ordinal(holder), ordinal(1 - holder)
+        words = f"windows {pair[0]} and {pair[1]} overlap in the {there} plan and not in the {elsewhere}"
+        data.update(position=pair[0], other=pair[1], overlap_in=there)
+    return Reply(f"different: {words}", header, [("different", words, *pair)], data, status=OTHERWISE)
 
 
 def _chain_arguments(parser) -> None:

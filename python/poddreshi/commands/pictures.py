@@ -2,8 +2,9 @@
 from typing import Optional, Tuple
 
 from .. import calls
-from ..commandline import Command, Given, given
+from ..commandline import Command, given
 from ..failures import Mistake
+from ..given import Given
 from ..pictures import Scene, draw
 from ..replies import Reply
 
@@ -37,8 +38,7 @@ def _draw(args) -> Reply:
     span = _span(args, plan)
     if span:
         shown = [at for at in shown if plan.windows[at].offset < span[1] and plan.windows[at].end > span[0]]
-    scene = Scene(plan.number, plan.windows, plan.names, plan.clock, tree, shown, ends, chain, span)
-    return Reply(content=draw(scene).encode())
+    return Reply(content=draw(Scene(plan, tree, shown, ends, chain, span)).encode())
 
 
 def _draw_arguments(parser) -> None:

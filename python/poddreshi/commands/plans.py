@@ -2,9 +2,10 @@
 import subprocess
 
 from .. import files, places, texts
-from ..commandline import Command, Given, given, number, reading
-from ..failures import ANSWERED, REFUSED, Failure
+from ..commandline import Command, given, number, reading
+from ..failures import REFUSED, Failure
 from ..figures import PLAN_LIMIT, PLAN_NUMBER_LIMIT, TEXT_LIMIT
+from ..given import Given
 from ..refusals import Asked, Refused
 from ..replies import Reply
 from ..times import Clock
@@ -15,10 +16,13 @@ _COLUMNS = ("position", "parent", "component", "depth", "rank", "last_rank")
 
 def _listed(file: bytes) -> str:
     """What the listing program prints."""
+    program = places.listing()
     try:
-        done = subprocess.run([str(places.listing())], input=file, stdout=subprocess.PIPE, check=True)
-    except (OSError, subprocess.CalledProcessError) as error:
-        raise Failure(f"the listing program does not run: {error}") from None
+        done = subprocess.run([str(program)], input=file, stdout=subprocess.PIPE)
+    except OSError as error:
+        raise Failure.of(f"the listing program {program} does not run", error) from None
+    if done.returncode or not done.stdout:
+        raise Failure(f"the listing program {program} ended with status {done.returncode}")
     return done.stdout.decode("ascii")
 
 
@@ -51,7 +55,7 @@ def _plan(args) -> Reply:
     with reading(args.text):
         data = files.read_whole(args.text, TEXT_LIMIT, "planner's text")
         file, _ = texts.make(plan_number, data, Clock(args.origin), args.sort, args.empty)
-    return Reply(content=file, status=ANSWERED)
+    return Reply(content=file)
 
 
 def _list_arguments(parser) -> None:
