@@ -12,59 +12,14 @@ A plan, a tag and a tag file are bytes, a bytearray or a memoryview. A refusal i
 the first call, from the built checkout or the installed tree that the package stands in, or from PODDRESHI_LIBRARY.
 """
 from ._version import __version__
-from .calls import (
-    Accepted,
-    Chain,
-    Handovers,
-    Neighbours,
-    Reach,
-    Sameness,
-    Tag,
-    Tags,
-    Tree,
-    build,
-    chain,
-    lookup,
-    neighbours,
-    pair,
-    pair_at,
-    reach,
-    read,
-    same,
-    tags,
-    validate,
-    write,
-)
+from .calls import Accepted, Chain, Handovers, Neighbours, Reach, Sameness, Tag, Tags, Tree
+from .calls import build, chain, lookup, neighbours, pair, pair_at, reach, read, same, tags, validate, write
 from .library import LibraryMissing
 from .plans import Window, pack, windows_of
 from .refusals import Refused
 
 __all__ = [
-    "Accepted",
-    "Chain",
-    "Handovers",
-    "LibraryMissing",
-    "Neighbours",
-    "Reach",
-    "Refused",
-    "Sameness",
-    "Tag",
-    "Tags",
-    "Tree",
-    "Window",
-    "__version__",
-    "build",
-    "chain",
-    "lookup",
-    "neighbours",
-    "pack",
-    "pair",
-    "pair_at",
-    "reach",
-    "read",
-    "same",
-    "tags",
-    "validate",
-    "windows_of",
-    "write",
+    *("Accepted", "Chain", "Handovers", "LibraryMissing", "Neighbours", "Reach", "Refused", "Sameness", "Tag", "Tags", "Tree"),
+    *("Window", "__version__", "build", "chain", "lookup", "neighbours", "pack", "pair", "pair_at", "reach", "read", "same"),
+    *("tags", "validate", "windows_of", "write"),
 ]

@@ -1,5 +1,6 @@
 """A time axis: minutes to places on a sheet, with empty stretches cut out, and the marks that it carries."""
-from datetime import datetime, timedelta
+import itertools
+from datetime import datetime
 from typing import Iterator, List, NamedTuple, Sequence, Tuple
 
 from .plans import Window
@@ -124,11 +125,7 @@ def _minutes(stretch: Stretch, scale: float, clock: Clock) -> Iterator[int]:
     if clock.origin is not None and least > _STEPS[-1]:
         yield from _months(stretch, least, clock)
         return
-    step = next((step for step in _STEPS if step >= least), 0)
-    if not step:
-        step = 10 * DAY
-        while step < least:
-            step *= 10 if str(step)[0] == "1" and step * 5 < least else 2
+    step = _step(least)
     # With an origin, steps are counted from a Monday at midnight long ago.
     base = 0 if clock.origin is None else (clock.origin - datetime.min) // MINUTE
     minute = -(-(stretch.start + base) // step) * step - base
@@ -137,13 +134,22 @@ def _minutes(stretch: Stretch, scale: float, clock: Clock) -> Iterator[int]:
         minute += step
 
 
+def _step(least: float) -> int:
+    step = next((step for step in _STEPS if step >= least), 0)
+    if not step:
+        step, factors = 20 * DAY, itertools.cycle((2.5, 2, 2))  # 20, 50, 100, 200 days and so on
+        while step < least:
+            step = int(step * next(factors))
+    return step
+
+
 def _months(stretch: Stretch, least: float, clock: Clock) -> Iterator[int]:
     step = next((step for step in _MONTHS if step * _MONTH >= least), _MONTHS[-1])
     start = clock.date(stretch.start)
     month = (12 * start.year + start.month - 1) // step * step
     while month < 12 * 9999:
         moment = datetime(max(month // 12, 1), month % 12 + 1, 1)
-        minute = (moment - clock.origin) // timedelta(minutes=1)
+        minute = (moment - clock.origin) // MINUTE
         if minute > stretch.end:
             return
         if minute >= stretch.start:

@@ -120,16 +120,18 @@ def _panels(scene: Scene, rows: int) -> List[List[int]]:
 def _heading(drawing: Drawing, scene: Scene, wide: float) -> float:
     room = wide - 2 * MARGIN
     drawing.text(MARGIN, 30, title(scene), 20, INK, room)
-    if not scene.plan.windows or not scene.shown:
-        drawing.text(MARGIN, 52, "no window to show", 13, GREY, room)
-        return 60
-    below = "a line leads from a window up to its parent"
-    if scene.ends is not None:
-        below = "rings mark the handovers" if scene.chain is not None else "the two windows are outlined"
-        if scene.chain:
-            below = f"chain {' '.join(map(str, scene.chain))} (from the later window to the earlier)"
-    drawing.text(MARGIN, 52, below, 13, GREY, room)
+    drawing.text(MARGIN, 52, _subtitle(scene), 13, GREY, room)
     return 60
+
+
+def _subtitle(scene: Scene) -> str:
+    if not scene.shown:
+        return "no window to show"
+    if scene.ends is None:
+        return "a line leads from a window up to its parent"
+    if scene.chain is None:
+        return "the two windows are outlined"
+    return f"chain {' '.join(map(str, scene.chain))} (from the later window to the earlier)"
 
 
 def _panel(drawing: Drawing, scene: Scene, panel: Panel, wide: float) -> None:

@@ -9,7 +9,7 @@ import re
 import unicodedata
 from typing import Iterator, List, NamedTuple, Optional, Tuple
 
-from . import calls
+from . import calls, times
 from .figures import LENGTH_LEAST, NUMBER_LIMIT, WINDOWS_LIMIT
 from .plans import Window, pack
 from .refusals import Asked, Refused
@@ -134,7 +134,7 @@ def _entry(row: Row, clock: Clock) -> Entry:
     offset, length, name = row.cells
     if not offset or not length:
         raise ValueError("a line has an offset and a length, and may have a name")
-    window = Window(clock.offset(offset), clock.length(length))
+    window = Window(clock.offset(offset), times.length(length))
     for number, what in zip(window, ("an offset", "a length")):
         if number > NUMBER_LIMIT:
             raise ValueError(f"{what} of {number:,} does not fit a plan file, which holds up to {NUMBER_LIMIT:,}")

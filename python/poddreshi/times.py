@@ -58,10 +58,6 @@ class Clock:
             raise ValueError(f'"{words}" lies before the origin, {stamp(self.origin)}')
         return minutes
 
-    @staticmethod
-    def length(word: str) -> int:
-        return length(word)
-
     def date(self, minute: int) -> datetime:
         try:
             return self.origin + minute * MINUTE
