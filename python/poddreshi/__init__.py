@@ -1,7 +1,7 @@
 """Poddreshi from Python: service windows, their distance tree and ten-byte tags, over the proved library.
 
-    >>> import poddreshi
-    >>> plan = open("examples/plan-12.plan", "rb").read()
+    >>> import pathlib, poddreshi
+    >>> plan = pathlib.Path("examples/plan-12.plan").read_bytes()
     >>> poddreshi.chain(plan, 1, 5)
     Chain(positions=(5, 4, 2, 1))
     >>> tags = poddreshi.tags(plan).tags

@@ -15,7 +15,7 @@ from typing import Iterator, List
 from . import files, places
 from .failures import Failure
 
-HOW_LONG = "about two minutes on two processors the first time, and less after a change"
+HOW_LONG = "some three minutes on two processors the first time, and less after a change"
 STATIC = "libpoddreshi.a"
 
 

@@ -59,11 +59,16 @@ def _library() -> ctypes.CDLL:
             function = getattr(library, "poddreshi_" + name)
             function.argtypes, function.restype = arguments, ctypes.c_uint64
     except OSError:
-        hint = "run ./poddreshi build" if places.checkout() else "install it, or name it in PODDRESHI_LIBRARY"
-        raise LibraryMissing(f"the library {path} cannot be loaded; {hint}") from None
+        raise LibraryMissing(f"the library {path} cannot be loaded; {_hint()}") from None
     except AttributeError:
         raise LibraryMissing(f"the library {path} is older than this package") from None
     return library
+
+
+def _hint() -> str:
+    if places.told():
+        return "it is the one that PODDRESHI_LIBRARY names"
+    return "run ./poddreshi build" if places.checkout() else "install it, or name it in PODDRESHI_LIBRARY"
 
 
 def ask(name: str, *arguments) -> Tuple[Kind, List[int]]:

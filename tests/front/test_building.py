@@ -67,7 +67,7 @@ class Checkout(Case):
         told = self.build()
         self.assertEqual(self.runs(), ["rt staticlib poddreshi", "rt check listing"])
         lines = told.splitlines()
-        self.assertIn("proving and building the library: about", lines[0])
+        self.assertIn("proving and building the library: some three minutes", lines[0])
         self.assertEqual(lines[1:], ["rt: proving", "rt: proving", "poddreshi: built"])
         self.assertEqual(self.build(), "")
         self.assertEqual(len(self.runs()), 2)

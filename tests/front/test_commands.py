@@ -156,6 +156,9 @@ class Commands(Case):
             self.text("same", self.plan, EXAMPLES / "plan-31.plan"),
             "different: the first plan has 7 windows and the second 48\n",
         )
+        apart, joined = plan((0, 1), (1, 1), (2, 1)), self.file("joined.plan", plan((0, 9), (1, 1), (2, 1)))
+        told = "different: windows 0 and 1 overlap in the second plan and not in the first\n"
+        self.assertEqual(self.text("same", "-", joined, stdin=apart), told)
         self.assertEqual(self.data("same", self.plan, moved), {"same": True})
         data = self.data("same", self.plan, longer)
         self.assertEqual((data["same"], data["position"], data["other"], data["overlap_in"]), (False, 5, 6, "second"))

@@ -70,7 +70,7 @@ class Installed(Case):
     def test_pkg_config(self):
         text = (self.tree / "lib" / "pkgconfig" / "poddreshi.pc").read_text()
         self.assertIn(f"\nVersion: {poddreshi.__version__}\n", text)
-        self.assertNotIn(str(self.folder), text)
+        self.assertTrue(text.startswith("prefix=${pcfiledir}/../..\n"))
         if shutil.which("pkg-config"):
             environment = {**os.environ, "PKG_CONFIG_PATH": str(self.tree / "lib" / "pkgconfig")}
             done = subprocess.run(["pkg-config", "--cflags", "--libs", "poddreshi"], env=environment, stdout=subprocess.PIPE)

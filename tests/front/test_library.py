@@ -1,12 +1,16 @@
 """The package over the C interface."""
 import ctypes
+import doctest
+import os
 import re
+import shutil
 import subprocess
 import sys
+import tempfile
 import unittest
+from ctypes.util import find_library
 
-import support
-from support import PLAN_12, ROOT, TAGS_12, plan
+from support import PLAN_12, PYTHON, ROOT, TAGS_12, plan
 
 import poddreshi
 from poddreshi import library
@@ -129,14 +133,28 @@ class Interface(unittest.TestCase):
         self.assertIn(f'#define PODDRESHI_VERSION "{poddreshi.__version__}"', self.HEADER)
         self.assertIn(f"## {poddreshi.__version__}", (ROOT / "CHANGELOG.md").read_text(encoding="utf-8"))
 
-    def test_hint_where_the_library_is_missing(self):
+    def without_library(self, package, **environment) -> str:
+        """What the package says where its library is not there."""
         code = "import poddreshi\ntry:\n poddreshi.validate(b'')\nexcept poddreshi.LibraryMissing as e: print(e)"
-        done = subprocess.run(
-            [sys.executable, "-c", code],
-            env={"PYTHONPATH": str(ROOT / "python"), "PODDRESHI_LIBRARY": "/nowhere/libpoddreshi.so"},
-            stdout=subprocess.PIPE,
-        )
-        self.assertIn(b"/nowhere/libpoddreshi.so cannot be loaded; run ./poddreshi build", done.stdout)
+        environment = {"PYTHONPATH": str(package), **PYTHON, **environment}
+        return subprocess.run([sys.executable, "-c", code], env=environment, stdout=subprocess.PIPE).stdout.decode()
+
+    def test_hints_where_the_library_is_missing(self):
+        told = self.without_library(ROOT / "python", PODDRESHI_LIBRARY="/nowhere/libpoddreshi.so")
+        self.assertEqual(told, "the library /nowhere/libpoddreshi.so cannot be loaded; it is the one that PODDRESHI_LIBRARY names\n")
+        told = self.without_library(ROOT / "python", PODDRESHI_LIBRARY=find_library("m"))
+        self.assertIn("is older than this package", told)
+        with tempfile.TemporaryDirectory() as folder:
+            shutil.copytree(ROOT / "python", folder + "/python", ignore=shutil.ignore_patterns("__pycache__"))
+            self.assertIn("install it, or name it in PODDRESHI_LIBRARY", self.without_library(folder + "/python"))
+            shutil.copy(ROOT / "crates.txt", folder)
+            self.assertIn("run ./poddreshi build", self.without_library(folder + "/python"))
+
+    def test_the_example_of_the_package(self):
+        before = os.getcwd()
+        os.chdir(ROOT)
+        self.addCleanup(os.chdir, before)
+        self.assertEqual(doctest.testmod(poddreshi), (0, 5))
 
 
 if __name__ == "__main__":

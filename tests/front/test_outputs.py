@@ -7,7 +7,7 @@ import sys
 import time
 import unittest
 
-from support import EXAMPLES, FRONT, PLAN_12, TAGS_12, Case, obey_modes
+from support import EXAMPLES, FRONT, PLAN_12, PYTHON, ROOT, TAGS_12, Case, obey_modes
 
 PLAN_31 = EXAMPLES / "plan-31.plan"
 WRITING = (
@@ -59,6 +59,11 @@ class StandardOutput(Case):
         done = self.run_front("tags", PLAN_31, "-o", "31.tags", front=FRONT, preexec_fn=lambda: os.closerange(0, 3))
         self.assertEqual(done.returncode, 0)
         self.assertEqual((self.folder / "31.tags").stat().st_size, 480)
+
+    def test_the_place_of_a_closed_stream_is_held(self):
+        code = "import os, stat\nfrom poddreshi import files\nfiles.hold_standard_streams()\nos._exit(not stat.S_ISCHR(os.fstat(1).st_mode))"
+        environment = {"PYTHONPATH": str(ROOT / "python"), **PYTHON}
+        self.assertEqual(subprocess.run([sys.executable, "-c", code], env=environment, preexec_fn=lambda: os.close(1)).returncode, 0)
 
     def test_long_output_through_a_slow_pipe(self):
         command = [sys.executable, str(FRONT), "draw", str(PLAN_31)]
