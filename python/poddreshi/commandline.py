@@ -3,8 +3,10 @@ place where a reply is written and an exit status chosen."""
 import argparse
 import contextlib
 import os
+import shutil
 import signal
 import sys
+import textwrap
 from datetime import datetime
 from typing import Callable, Iterator, NamedTuple, Optional, Sequence
 
@@ -19,11 +21,12 @@ from .replies import Reply
 from .texts import Faulty
 from .times import Clock
 
-DESCRIPTION = """\
-Service windows, their distance tree and ten-byte tags. PLAN, TEXT, TAGS, TAG and RIGS are files, or - for standard input."""
-STATUS = """\
-The exit status is 0 for an answer, 1 where an input is refused, 2 where the command is mistaken and 3 where an input or an
-output failed. With --exit-code it is 4 for the answers "no chain" and "different". A refusal goes to standard error in words."""
+DESCRIPTION = """Service windows, their distance tree and ten-byte tags. PLAN, TEXT, TAGS, TAG and RIGS are files, or - for
+standard input."""
+STATUS = """The exit status is 0 for an answer, 1 where an input is refused, 2 where the command is mistaken and 3 where an input
+or an output failed. With --exit-code it is 4 for the answers "no chain" and "different". A refusal goes to standard error in
+words."""
+WIDTH = min(shutil.get_terminal_size().columns, 100)  # of the help
 
 
 class Command(NamedTuple):
@@ -53,7 +56,7 @@ class Parser(argparse.ArgumentParser):
         super().__init__(
             add_help=False,
             allow_abbrev=False,
-            formatter_class=lambda prog: argparse.RawDescriptionHelpFormatter(prog, max_help_position=26, width=110),
+            formatter_class=lambda prog: argparse.RawDescriptionHelpFormatter(prog, max_help_position=26, width=WIDTH),
             **options,
         )
         self.add_argument("-h", "--help", action=_Tell, tells=Parser.format_help, help="show this and exit")
@@ -130,17 +133,21 @@ def reading(name: str) -> Iterator[None]:
         raise
 
 
+def _filled(words: str) -> str:
+    return textwrap.fill(words, WIDTH, break_long_words=False, break_on_hyphens=False)
+
+
 def parser(commands: Sequence[Command]) -> Parser:
-    top = Parser(prog="poddreshi", description=DESCRIPTION, epilog=STATUS)
-    top.add_argument("--version", action=_Tell, tells=lambda _: f"poddreshi {__version__}\n", help="show the version and exit")
+    top = Parser(prog="poddreshi", description=_filled(DESCRIPTION), epilog=_filled(STATUS))
+    version = f"poddreshi {__version__}\n"
+    top.add_argument("--version", action=_Tell, tells=lambda _: version, help="show the version and exit")
     below = top.add_subparsers(metavar="COMMAND", dest="command", required=True, parser_class=Parser)
     for command in commands:
-        examples = "".join(f"\n  {line}" for line in command.examples)
         own = below.add_parser(
             command.name,
             help=command.summary,
-            description="\n\n".join(filter(None, (command.summary[0].upper() + command.summary[1:] + ".", command.details))),
-            epilog=f"examples:{examples}",
+            description=_filled(f"{command.summary[0].upper()}{command.summary[1:]}. {command.details}"),
+            epilog="\n  ".join(["examples:", *command.examples]),
         )
         command.arguments(own)
         own.set_defaults(run=command.run, needs_library=command.needs_library)

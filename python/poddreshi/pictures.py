@@ -54,7 +54,7 @@ class Panel(NamedTuple):
 
 def title(scene: Scene) -> str:
     if scene.ends is None:
-        return f"Plan {scene.plan.number}: {counted(len(scene.plan.windows), 'window')}, {counted(scene.tree.components, 'component')}"
+        return f"Plan {scene.plan.number}: {counted(scene.tree.windows, 'window')}, {counted(scene.tree.components, 'component')}"
     between = " and ".join(scene.plan.names.label(end) for end in scene.ends)
     if scene.chain is None:
         return f"Plan {scene.plan.number}: no chain between {between}"
@@ -152,9 +152,8 @@ def _bands(drawing: Drawing, scene: Scene, panel: Panel, wide: float) -> None:
         top, high = panel.top + panel.row * start, panel.row * (at - start)
         if component % 2 == 0:
             drawing.element("rect", x=0, y=top, width=wide, height=high, fill=BAND)
-        words = f"component {component}"
-        size = min(_font(panel.row), 11)
-        drawing.text(panel.axis.right + 12, top + panel.row / 2 + size / 3, words, size, GREY, wide - panel.axis.right - 12 - MARGIN)
+        size, beside = min(_font(panel.row), 11), panel.axis.right + 12
+        drawing.text(beside, top + panel.row / 2 + size / 3, f"component {component}", size, GREY, wide - beside - MARGIN)
         start = at
 
 

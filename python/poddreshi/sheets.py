@@ -10,6 +10,7 @@ from .texts import Fault, Faulty, Row, clean, csv_rows, lines_of, words_of
 from .wording import counted
 
 _COLUMNS = ("rig", "present", "wanted")
+_LINE = "a line has a rig's name, its present window and the window where it is wanted"
 HEADER = (
     *("line", "rig", "present", "wanted", "answer", "handovers"),
     *("step", "window", "name", "begin", "end", "handover_from", "handover_to"),
@@ -44,7 +45,7 @@ def make(plan: Given, data: bytes) -> Sheet:
     """The sheet for lines of a rig's name and two windows. A line that is wrong is kept as a fault, and spoils no other."""
     rows, faults = _rows(data)
     if not rows and not faults:
-        raise Faulty([Fault(1, "there is no rig; a line has a rig's name, its present window and the window where it is wanted")])
+        raise Faulty([Fault(1, f"there is no rig; {_LINE}")])
     trips = []
     for row in rows:
         try:
@@ -66,7 +67,7 @@ def _rows(data: bytes) -> Tuple[List[Row], List[Fault]]:
 
 def _trip(plan: Given, row: Row) -> Trip:
     if len(row.cells) != 3 or not all(row.cells):
-        raise ValueError("a line has a rig's name, its present window and the window where it is wanted")
+        raise ValueError(_LINE)
     name, (present, wanted) = clean(row.cells[0]), (plan.names.position(word) for word in row.cells[1:])
     chain = calls.chain(plan.file, present, wanted).positions
     if chain and chain[0] != present:

@@ -31,7 +31,7 @@ def _em(character: str) -> float:
         return 1.05
     if character in "mwMW@%—…":
         return 1.0
-    return 0.4 if character in " .,:;'|ijl" else 0.78 if character.isupper() else 0.66
+    return 0.42 if character in " .,:;'|()-ijlrftI" else 0.78 if character.isupper() else 0.64
 
 
 def fitted(words: str, size: float, room: float) -> str:
@@ -60,16 +60,14 @@ class Drawing:
     def line(self, x1: float, y1: float, x2: float, y2: float, stroke: str, stroke_width: float = 1, **more) -> None:
         self.element("line", x1=x1, y1=y1, x2=x2, y2=y2, stroke=stroke, stroke_width=stroke_width, **more)
 
-    def text(self, x: float, y: float, words: str, size: float, fill: str, room: float, anchor: str = "start", bold=False) -> None:
+    def text(self, x, y, words: str, size: float, fill: str, room: float, anchor: str = "start", bold: bool = False) -> None:
         """Text that takes no more than its room; what was cut off is in its title."""
         short = fitted(words, size, room)
         if short:
+            place = f'x="{number(x)}" y="{number(y)}" font-size="{number(size)}" text-anchor="{anchor}"'
             weight = ' font-weight="bold"' if bold else ""
             title = f"<title>{clean(words)}</title>" if short != words else ""
-            self.elements.append(
-                f'<text x="{number(x)}" y="{number(y)}" font-size="{number(size)}" text-anchor="{anchor}" fill="{fill}"{weight}>'
-                f"{clean(short)}{title}</text>"
-            )
+            self.elements.append(f'<text {place} fill="{fill}"{weight}>{clean(short)}{title}</text>')
 
     def finish(self, wide: float, high: float, title: str, description: str) -> str:
         head = (

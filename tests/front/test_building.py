@@ -53,7 +53,9 @@ class Checkout(Case):
         return bare
 
     def lists(self, front=None, environment=None, **options):
-        done = self.run_front("list", self.plan, front=front or self.root / "poddreshi", environment=environment or self.without, **options)
+        """What is said beside the right listing."""
+        front, environment = front or self.root / "poddreshi", environment or self.without
+        done = self.run_front("list", self.plan, front=front, environment=environment, **options)
         self.assertEqual((done.stdout.decode(), done.returncode), (LISTING_12, 0), done.stderr)
         return done.stderr.decode()
 
@@ -75,9 +77,10 @@ class Checkout(Case):
     def test_two_first_uses_at_once(self):
         command = [str(self.root / "poddreshi"), "list", self.plan]
         environment = {**os.environ, **self.with_rt, "RT_SLEEP": "0.7"}
-        both = [subprocess.Popen(command, env=environment, stdout=subprocess.PIPE, stderr=subprocess.PIPE) for _ in range(3)]
-        told = [front.communicate(timeout=60) for front in both]
-        self.assertEqual([(out.decode(), front.returncode) for (out, _), front in zip(told, both)], [(LISTING_12, 0)] * 3)
+        pipes = {"stdout": subprocess.PIPE, "stderr": subprocess.PIPE}
+        fronts = [subprocess.Popen(command, env=environment, **pipes) for _ in range(3)]
+        told = [front.communicate(timeout=60) for front in fronts]
+        self.assertEqual([(out.decode(), front.returncode) for (out, _), front in zip(told, fronts)], [(LISTING_12, 0)] * 3)
         self.assertEqual(self.runs(), ["rt staticlib poddreshi", "rt check listing"])
         self.assertEqual(sum(b"waiting" in error for _, error in told), 2)
 
@@ -101,7 +104,8 @@ class Checkout(Case):
         (self.root / "crates" / "other" / "src" / "lib.rt").write_text("no part of what is built")
         self.assertEqual(self.lists(), "")
         (self.root / "crates" / "tag" / "src" / "lib.rt").write_text("changed")
-        self.fails(3, "list", self.plan, front=self.root / "poddreshi", environment=self.without, about="the library is not built")
+        options = {"front": self.root / "poddreshi", "environment": self.without}
+        self.fails(3, "list", self.plan, about="the library is not built", **options)
         self.build()
         self.assertEqual(len(self.runs()), 4)
         self.assertEqual(len(list((self.root / "target" / "front").iterdir())), 1)
@@ -123,13 +127,14 @@ class Checkout(Case):
         for command in (("list", self.plan), ("build",), ("install", "there")):
             self.fails(3, *command, about="rt, which proves and builds it, is not on the path", **options)
         options["environment"] = {**self.with_rt, "CC": "no-such-compiler -O2"}
-        self.fails(3, "list", self.plan, about="no-such-compiler, a C compiler, which makes the shared library, is not on", **options)
+        self.fails(3, "list", self.plan, about="no-such-compiler, a C compiler, which makes the shared library, is not", **options)
         self.assertIn(b"examples:", self.run_front("list", "--help", **options).stdout)
 
     def test_a_failed_proof(self):
         done = self.run_front("list", self.plan, front=self.root / "poddreshi", environment={**self.with_rt, "RT_FAILS": "1"})
         self.assertEqual((done.returncode, done.stdout), (3, b""))
-        self.assertEqual(done.stderr.splitlines()[-2:], [b"rt: a fact does not hold", b"poddreshi: the library is not proved, so it was not built"])
+        said = ["rt: a fact does not hold", "poddreshi: the library is not proved, so it was not built"]
+        self.assertEqual(done.stderr.decode().splitlines()[-2:], said)
         self.assertFalse((self.root / "target" / "front").exists())
         self.build()
 

@@ -60,7 +60,8 @@ class Commands(Case):
         }.items():
             done = self.run_front("list", "-", stdin=file)
             self.assertEqual((done.stdout.decode(), done.stderr, done.returncode), (line + "\n", b"", 1))
-        self.says(1, "refused by question 1: the plan has 3 bytes; a plan has at least 4", "list", "-", "--json", stdin=b"\0\0\0")
+        words = "refused by question 1: the plan has 3 bytes; a plan has at least 4"
+        self.says(1, words, "list", "-", "--json", stdin=b"\0\0\0")
 
     def test_tags_and_tag(self):
         self.assertEqual(self.answers("tags", self.plan), TAGS_12)
@@ -100,7 +101,8 @@ class Commands(Case):
         self.assertEqual(self.text("count", self.tags, 5, "--all"), told)
         counts = self.data("count", self.tags, 5, "--all")["counts"]
         self.assertEqual([row["handovers"] for row in counts], [3, 3, 2, 3, 1, 0, None])
-        self.assertEqual([row[2] for row in self.rows("count", self.tags, 5, "--all")[1:]], ["3", "3", "2", "3", "1", "0", "no chain"])
+        rows = self.rows("count", self.tags, 5, "--all")
+        self.assertEqual([row[2] for row in rows[1:]], ["3", "3", "2", "3", "1", "0", "no chain"])
 
     def test_count_all_beside_a_tag_that_is_refused(self):
         mixed = self.file("mixed.tags", TAGS_12[:20] + b"\x0d" + TAGS_12[21:])
@@ -134,7 +136,8 @@ class Commands(Case):
         self.fails(2, "chain", self.plan, 1, "Quay", about="names come with --names")
         bad = self.file("bad", "9 nowhere\n1 here\n1 there\nnobody\n")
         done = self.run_front("chain", self.plan, 1, 5, "--names", bad)
-        self.assertEqual((done.returncode, [line.split(b": ")[0][-6:] for line in done.stderr.splitlines()]), (1, [b"line 1", b"line 3", b"line 4"]))
+        lines = [line.split(b": ")[0][-6:] for line in done.stderr.splitlines()]
+        self.assertEqual((done.returncode, lines), (1, [b"line 1", b"line 3", b"line 4"]))
 
     def test_neighbours_and_reach(self):
         self.assertEqual(self.text("neighbours", "-", 2, stdin=PLAN_12), "0 1 3 4\n")
@@ -151,7 +154,8 @@ class Commands(Case):
         self.assertEqual(self.text("same", self.plan, moved), "same\n")
         told = "different: windows 5 and 6 overlap in the second plan and not in the first\n"
         self.assertEqual(self.text("same", self.plan, longer), told)
-        self.assertEqual(self.text("same", longer, "-", stdin=PLAN_12), told.replace("second", "x").replace("first", "second").replace("x", "first"))
+        told = "different: windows 5 and 6 overlap in the first plan and not in the second\n"
+        self.assertEqual(self.text("same", longer, "-", stdin=PLAN_12), told)
         self.assertEqual(
             self.text("same", self.plan, EXAMPLES / "plan-31.plan"),
             "different: the first plan has 7 windows and the second 48\n",

@@ -5,7 +5,7 @@ import subprocess
 import sys
 import unittest
 
-from support import EXAMPLES, FRONT, LISTING_12, PLAN_12, ROOT, TAGS_12, Case
+from support import EXAMPLES, LISTING_12, PLAN_12, TAGS_12, Case
 
 import poddreshi
 
@@ -46,9 +46,8 @@ class Installed(Case):
         self.assertEqual(self.there("--version").decode(), f"poddreshi {poddreshi.__version__}\n")
         self.assertNotIn(b"install", self.there("--help"))
         (self.folder / "command").symlink_to(self.tree / "bin" / "poddreshi")
-        self.assertEqual(
-            self.answers("count", "-", 4, 5, front=self.folder / "command", environment=self.bare, stdin=TAGS_12), b"1 handover\n"
-        )
+        linked = {"front": self.folder / "command", "environment": self.bare}
+        self.assertEqual(self.answers("count", "-", 4, 5, stdin=TAGS_12, **linked), b"1 handover\n")
 
     def test_the_package_alone(self):
         code = "import poddreshi, sys; print(poddreshi.chain(sys.stdin.buffer.read(), 1, 5), poddreshi.__file__)"
@@ -82,7 +81,8 @@ class Installed(Case):
         (prefix / "lib" / "poddreshi" / "gone.py").touch()
         self.run_front("install", prefix)
         self.assertFalse((prefix / "lib" / "poddreshi" / "gone.py").exists())
-        self.assertEqual(sorted(path.name for path in (prefix / "lib").iterdir()), ["libpoddreshi.a", "libpoddreshi.so", "pkgconfig", "poddreshi"])
+        found = sorted(path.name for path in (prefix / "lib").iterdir())
+        self.assertEqual(found, ["libpoddreshi.a", "libpoddreshi.so", "pkgconfig", "poddreshi"])
 
     def test_a_prefix_that_cannot_be_written(self):
         self.fails(3, "install", "/proc/nowhere", about="no such file or directory")

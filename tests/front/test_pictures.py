@@ -44,7 +44,8 @@ class Pictures(Case):
         elif element.tag == SVG + "line":
             spans = [(*sorted((numbers["x1"], numbers["x2"])), wide), (*sorted((numbers["y1"], numbers["y2"])), high)]
         elif element.tag == SVG + "circle":
-            spans = [(numbers[at] - numbers["r"], numbers[at] + numbers["r"], limit) for at, limit in (("cx", wide), ("cy", high))]
+            x, y, r = (numbers[name] for name in ("cx", "cy", "r"))
+            spans = [(x - r, x + r, wide), (y - r, y + r, high)]
         elif element.tag == SVG + "text":
             taken, anchor = text_width(element), element.get("text-anchor")
             left = numbers["x"] - {"start": 0, "middle": taken / 2, "end": taken}[anchor]
@@ -115,14 +116,15 @@ class Pictures(Case):
         self.assertEqual(len(self.bars(sheet)), 2048)
         self.assertTrue(float(sheet.get("width")) <= 1600 and float(sheet.get("height")) <= 32767)
         described = re.findall(r"window (\d+)", sheet.find(SVG + "desc").text)
-        self.assertEqual([int(v) for v in described[1:]] if described[0] != "2047" else [int(v) for v in described], list(range(2047, -1, -1)))
+        self.assertEqual([int(v) for v in described], list(range(2047, -1, -1)))
 
     def test_random_plans(self):
         generator = random.Random(7)
         names = self.file("names", "0 " + "W" * 300 + "\n1 渡し場" + "し" * 99 + "\n2 <&\"'>\n3 \ufffe\n")
         for case in range(25):
             count = generator.choice([4, 9, 70, 300])
-            windows = random_windows(generator, count, generator.choice([5, 500, 50_000, 9_000_000]), generator.choice([2, 50, 5000]))
+            span, longest = generator.choice([5, 500, 50_000, 9_000_000]), generator.choice([2, 50, 5000])
+            windows = random_windows(generator, count, span, longest)
             options = generator.choice([(), ("--origin", "2026-02-28 23:59"), ("--origin", "0001-01-01"), ("--names", names)])
             ends = generator.choice([(), (str(generator.randrange(count)), str(generator.randrange(count)))])
             span = generator.choice([(), ("--from", "2"), ("--from", "1", "--to", str(windows[-1][0] + 1))])
@@ -132,7 +134,7 @@ class Pictures(Case):
         """The same bytes where the locale writes a comma. Where no such locale is installed one is made, if that can be done."""
         folder = self.folder / "locales"
         folder.mkdir()
-        environment = {**os.environ, **PYTHON, "LC_ALL": "de_DE.UTF-8", "LANG": "de_DE.UTF-8", "PYTHONPATH": str(ROOT / "python")}
+        environment = {**os.environ, **PYTHON, "LC_ALL": "de_DE.UTF-8", "PYTHONPATH": str(ROOT / "python")}
         try:
             command = ["localedef", "-i", "de_DE", "-f", "UTF-8", str(folder / "de_DE.UTF-8")]
             if subprocess.run(command, stdout=subprocess.DEVNULL, stderr=subprocess.DEVNULL).returncode == 0:
@@ -147,8 +149,9 @@ class Pictures(Case):
             "sys.exit(main())"
         )
         plan_31 = str(EXAMPLES / "plan-31.plan")
-        done = subprocess.run([sys.executable, "-c", code, "draw", plan_31, "10", "16"], env=environment, stdout=subprocess.PIPE)
-        self.assertEqual(done.stdout, self.answers("draw", plan_31, "10", "16"))
+        command = [sys.executable, "-c", code, "draw", plan_31, "10", "16"]
+        drawn = subprocess.run(command, env=environment, stdout=subprocess.PIPE).stdout
+        self.assertEqual(drawn, self.answers("draw", plan_31, "10", "16"))
 
     def test_no_module_asks_for_the_locale(self):
         for module in (ROOT / "python" / "poddreshi").rglob("*.py"):

@@ -54,7 +54,8 @@ class Chains(Case):
         rows = list(csv.DictReader(io.StringIO(self.sheet("--csv").stdout.decode())))
         first = [row for row in rows if row["rig"] == "Rig 1"]
         self.assertEqual([row["window"] for row in first], ["1", "2", "4", "5"])
-        self.assertEqual([(row["handover_from"], row["handover_to"]) for row in first], [("4", "5"), ("12", "16"), ("17", "18"), ("", "")])
+        shared = [(row["handover_from"], row["handover_to"]) for row in first]
+        self.assertEqual(shared, [("4", "5"), ("12", "16"), ("17", "18"), ("", "")])
         self.assertEqual([row["answer"] for row in rows if row["rig"] == "Crane"], ["no chain"])
         self.assertEqual([row["line"] for row in rows if row["answer"].startswith("not read")], ["5", "6"])
 

@@ -26,7 +26,7 @@ COMMANDS = [
         lambda parser: None,
         _build,
         ["./poddreshi build"],
-        f"Prints the folder of the libraries. Every other command does this by itself where it is needed; it takes\n"
+        "Prints the folder of the libraries. Every other command does this by itself where it is needed. It takes "
         f"{building.HOW_LONG}.",
         needs_library=False,
     ),

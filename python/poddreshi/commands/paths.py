@@ -114,7 +114,7 @@ COMMANDS = [
         _chain_arguments,
         _chain,
         ["poddreshi chain examples/plan-12.plan 1 5", "poddreshi chain year.plan 3 9 --names year.txt --origin 2026-01-01"],
-        "Of the shortest chains it is the one with the earliest window at each step. With --names or --origin there is a line\n"
+        "Of the shortest chains it is the one with the earliest window at each step. With --names or --origin there is a line "
         "for each window: position, name, begin and end.",
     ),
     Command(

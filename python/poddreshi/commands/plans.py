@@ -85,7 +85,7 @@ COMMANDS = [
         _list_arguments,
         _list,
         ["poddreshi list examples/plan-12.plan", "poddreshi plan 31 examples/plan-31.txt | poddreshi list -"],
-        "First PLAN WINDOWS COMPONENTS, then for each window its position, parent (a root's is its own), component, depth,\n"
+        "First PLAN WINDOWS COMPONENTS, then for each window its position, parent (a root's is its own), component, depth, "
         "rank and rank of the last. A refusal is the line `refused NUMBER POSITION` on standard output.",
     ),
     Command(
@@ -104,9 +104,9 @@ COMMANDS = [
             "poddreshi plan 31 examples/plan-31.txt -o plan-31.plan",
             "poddreshi plan 40 examples/year.txt --origin 2026-01-01 --sort -o year.plan",
         ],
-        "A line has an offset and a length in minutes and may have a name: `1440 480 North pier`. With --origin an offset may be\n"
-        "a date and a length have units: `2026-02-06 08:00 48h North pier`. What follows a # is left out, and a name in double\n"
-        "quotes may hold one. A text whose first line is `offset,length,name` is CSV (also with ; or tabs). Every line that is\n"
-        "wrong is named, and then nothing is written.",
+        "A line has an offset and a length in minutes and may have a name: `1440 480 North pier`. With --origin an offset may "
+        "be a date and a length have units: `2026-02-06 08:00 48h North pier`. What follows a # is left out, and a name in "
+        "double quotes may hold one. A text whose first line is `offset,length,name` is CSV (also with ; or tabs). Every line "
+        "that is wrong is named, and then nothing is written.",
     ),
 ]

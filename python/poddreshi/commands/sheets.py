@@ -16,7 +16,8 @@ def _chains(args) -> Reply:
 
 def _chains_arguments(parser) -> None:
     parser.plan()
-    parser.add_argument("rigs", metavar="RIGS", help="lines of a rig's name, its present window and the window where it is wanted")
+    words = "lines of a rig's name, its present window and the window where it is wanted"
+    parser.add_argument("rigs", metavar="RIGS", help=words)
     parser.names()
     parser.exit_code("no chain")
     parser.forms("html")
@@ -32,7 +33,7 @@ COMMANDS = [
             "poddreshi chains year.plan rigs.txt --names examples/year.txt --origin 2026-01-01",
             "poddreshi chains year.plan rigs.txt --html -o friday.html",
         ],
-        "The last two words of a line are positions, or names in double quotes where --names gives them; or RIGS is CSV with\n"
+        "The last two words of a line are positions, or names in double quotes where --names gives them; or RIGS is CSV with "
         "the header `rig,present,wanted`. A line that is wrong is named and spoils no other; the exit status is then 1.",
     ),
 ]

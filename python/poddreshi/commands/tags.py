@@ -103,7 +103,8 @@ def _explain_arguments(parser) -> None:
 
 
 def _count_arguments(parser) -> None:
-    parser.usage = "poddreshi count [options] TAG TAG\n       poddreshi count [options] TAGS FIRST SECOND\n       poddreshi count [options] TAGS FIRST --all"
+    forms = ("TAG TAG", "TAGS FIRST SECOND", "TAGS FIRST --all")
+    parser.usage = "\n       ".join(f"poddreshi count [options] {form}" for form in forms)
     parser.add_argument("tags", metavar="TAGS", help="a tag file, or the first of two tags")
     parser.add_argument("first", metavar="FIRST", help="a position, or the second of two tags")
     parser.add_argument("second", metavar="SECOND", nargs="?", help="a position")
