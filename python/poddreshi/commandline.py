@@ -155,8 +155,10 @@ def parser(commands: Sequence[Command]) -> Parser:
 
 
 def say(line: str) -> None:
-    with contextlib.suppress(OSError, ValueError):
-        sys.stderr.write(line + "\n")
+    """A line on standard error. What an input holds is shown, and never obeyed by a terminal."""
+    shown = "".join(each if each.isprintable() else each.encode("unicode_escape").decode() for each in line)
+    with contextlib.suppress(OSError):
+        sys.stderr.write(shown + "\n")
         sys.stderr.flush()
 
 

@@ -2,6 +2,7 @@
 import csv
 import io
 import json
+import random
 import unittest
 
 from support import EXAMPLES, LISTING_12, PLAN_12, TAGS_12, Case, line_plan, plan
@@ -204,6 +205,26 @@ class Commands(Case):
             error = self.fails(2, *words, about="poddreshi: ")
             for internal in ("Namespace", "argparse", "_plan", "lambda", "<", "NoneType"):
                 self.assertNotIn(internal, error)
+
+    def test_any_bytes_at_all(self):
+        """Whatever an input holds, the status is one of those that the help names, and what is said is no traceback."""
+        generator = random.Random(5)
+        names = self.file("any", generator.randbytes(200))
+        plan_12, tags_12 = list(PLAN_12), list(TAGS_12)
+        for case in range(15):
+            altered = bytearray(generator.choice([plan_12, tags_12, b"0 10\n2 3 x\n# c\n4 12\n", b"offset,length\n1,2\n"]))
+            for _ in range(generator.randrange(4)):
+                altered[generator.randrange(len(altered))] = generator.choice([0, 9, 10, 34, 44, 48, 255, generator.randrange(256)])
+            altered = altered[: generator.choice([len(altered), generator.randrange(len(altered))])]
+            for words in (
+                *(("tags", "-"), ("chain", "-", 0, 1), ("draw", "-"), ("text", "-", "--json"), ("same", self.plan, "-")),
+                *(("count", "-", 0, "--all"), ("explain", "-"), ("plan", 7, "-", "--sort"), ("chains", self.plan, "-", "--html")),
+                *(("chain", self.plan, 0, 1, "--names", "-"), ("chain", "-", 0, 1, "--names", names), ("list", "-", "--csv")),
+            ):
+                done = self.run_front(*words, stdin=bytes(altered))
+                self.assertIn(done.returncode, (0, 1), (words, bytes(altered), done.stderr))
+                self.assertNotIn(b"should not have", done.stderr)
+                self.assertTrue(all(line.isprintable() for line in done.stderr.decode().splitlines()))
 
     def test_inputs_that_fail(self):
         self.fails(3, "list", "nowhere.plan", about="poddreshi: nowhere.plan: no such file or directory")

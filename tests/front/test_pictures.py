@@ -3,6 +3,7 @@ import math
 import os
 import random
 import re
+import shutil
 import subprocess
 import sys
 import unittest
@@ -131,27 +132,25 @@ class Pictures(Case):
             self.drawn(plan(*windows), *ends, *options, *span)
 
     def test_a_decimal_comma_changes_nothing(self):
-        """The same bytes where the locale writes a comma. Where no such locale is installed one is made, if that can be done."""
-        folder = self.folder / "locales"
-        folder.mkdir()
-        environment = {**os.environ, **PYTHON, "LC_ALL": "de_DE.UTF-8", "PYTHONPATH": str(ROOT / "python")}
-        try:
-            command = ["localedef", "-i", "de_DE", "-f", "UTF-8", str(folder / "de_DE.UTF-8")]
-            if subprocess.run(command, stdout=subprocess.DEVNULL, stderr=subprocess.DEVNULL).returncode == 0:
-                environment["LOCPATH"] = str(folder)
-        except FileNotFoundError:
-            pass
+        """The same bytes where the process has a locale that writes 1,5, which is made here."""
+        numbers = 'LC_NUMERIC\ndecimal_point ","\nthousands_sep "."\ngrouping 3;3\nEND LC_NUMERIC\n'
+        source = self.file("comma", numbers + 'LC_CTYPE\ncopy "POSIX"\nEND LC_CTYPE\n')
+        command = ["localedef", "-c", "-i", source, "-f", "ANSI_X3.4-1968", str(self.folder / "xx_XX")]
+        if shutil.which("localedef"):
+            subprocess.run(command, stdout=subprocess.DEVNULL, stderr=subprocess.DEVNULL)
+        if not (self.folder / "xx_XX").exists():
+            self.skipTest("no locale can be made here")
         code = (
             "import locale, sys\n"
-            "try: locale.setlocale(locale.LC_ALL, '')\n"
-            "except locale.Error: pass\n"
+            "locale.setlocale(locale.LC_ALL, '')\n"
+            "assert locale.str(1.5) == '1,5'\n"
             "from poddreshi.__main__ import main\n"
             "sys.exit(main())"
         )
-        plan_31 = str(EXAMPLES / "plan-31.plan")
-        command = [sys.executable, "-c", code, "draw", plan_31, "10", "16"]
-        drawn = subprocess.run(command, env=environment, stdout=subprocess.PIPE).stdout
-        self.assertEqual(drawn, self.answers("draw", plan_31, "10", "16"))
+        own = {"LC_ALL": "xx_XX", "LOCPATH": str(self.folder), "PYTHONPATH": str(ROOT / "python")}
+        command = [sys.executable, "-c", code, "draw", str(EXAMPLES / "plan-31.plan"), "10", "16"]
+        drawn = subprocess.run(command, env={**os.environ, **PYTHON, **own}, stdout=subprocess.PIPE).stdout
+        self.assertEqual(drawn, self.answers("draw", EXAMPLES / "plan-31.plan", 10, 16))
 
     def test_no_module_asks_for_the_locale(self):
         for module in (ROOT / "python" / "poddreshi").rglob("*.py"):
