@@ -2,11 +2,10 @@
 
 A plan, a tag and a tag file are bytes, a bytearray or a memoryview. Everything is decided in the library.
 """
-import struct
 from typing import NamedTuple, Optional, Tuple
 
 from . import library
-from .figures import PLAN_NUMBER_LIMIT, TAG_LENGTH, WINDOWS_LIMIT
+from .figures import PLAN_NUMBER_LIMIT, TAG, TAG_LENGTH, WINDOWS_LIMIT
 from .library import Kind, flat, lend, position, room, table
 from .refusals import Asked, Refused
 from .wording import counted
@@ -194,7 +193,7 @@ def lookup(tags, at: int) -> bytes:
 def read(tag) -> Tag:
     """The five numbers of a tag. A tag beside itself is refused just where the tag is."""
     _ask("pair", Asked(tags=[tag]), *lend(tag), *lend(tag))
-    return Tag(*struct.unpack("<5H", tag))
+    return Tag(*TAG.unpack(tag))
 
 
 def write(plan: int, component: int, depth: int, rank: int, last_rank: int) -> bytes:
@@ -203,5 +202,5 @@ def write(plan: int, component: int, depth: int, rank: int, last_rank: int) -> b
     if not all(0 <= number <= PLAN_NUMBER_LIMIT for number in numbers):
         raise ValueError("a tag's numbers have two bytes")
     out = room(TAG_LENGTH)
-    _ask("write", Asked(tags=[struct.pack("<5H", *numbers)]), *numbers, *out)
+    _ask("write", Asked(tags=[TAG.pack(*numbers)]), *numbers, *out)
     return bytes(out[0])

@@ -1,7 +1,10 @@
 """The figures of the formats, each in one place."""
+import struct
 
-HEADER_LENGTH = 4  # bytes of a plan file before its windows
-WINDOW_LENGTH = 8  # bytes of a window
+HEADER = struct.Struct("<HH")  # of a plan file: plan number, number of windows
+HEADER_LENGTH = HEADER.size
+WINDOW = struct.Struct("<II")  # offset, length
+WINDOW_LENGTH = WINDOW.size
 WINDOWS_LIMIT = 2048  # windows of a plan, at most
 PLAN_LIMIT = HEADER_LENGTH + WINDOW_LENGTH * WINDOWS_LIMIT  # bytes of the longest plan file
 PLAN_NUMBER_LIMIT = 65535
@@ -9,8 +12,9 @@ LENGTH_LEAST = 1  # the shortest window
 END_LIMIT = 10_000_000  # the greatest end of a window
 NUMBER_LIMIT = 2**32 - 1  # the greatest offset or length that a plan file can hold
 
-TAG_LENGTH = 10  # bytes of a tag
-TAG_FIELDS = ("plan", "component", "depth", "rank", "last_rank")
+TAG = struct.Struct("<5H")
+TAG_LENGTH = TAG.size
+TAG_FIELDS = ("plan number", "component", "depth", "rank", "rank of the last")
 FIELD_LIMIT = 2047  # the greatest number in a tag's field after the plan number
 POSITION_LIMIT = 2**64 - 1  # the greatest position that the library can be asked about
 

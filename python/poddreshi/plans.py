@@ -1,8 +1,7 @@
 """The bytes of a plan file and its windows. Nothing is judged here: `validate` of the library says what is a plan."""
-import struct
 from typing import Iterable, List, NamedTuple
 
-from .figures import HEADER_LENGTH, PLAN_NUMBER_LIMIT
+from .figures import HEADER, HEADER_LENGTH, PLAN_NUMBER_LIMIT, WINDOW
 
 
 class Window(NamedTuple):
@@ -17,10 +16,9 @@ class Window(NamedTuple):
 def pack(number: int, windows: Iterable[Window]) -> bytes:
     """A plan file of these windows. More windows than the header can count are counted as the most that it can."""
     windows = list(windows)
-    header = struct.pack("<HH", number, min(len(windows), PLAN_NUMBER_LIMIT))
-    return header + b"".join(struct.pack("<II", *window) for window in windows)
+    return HEADER.pack(number, min(len(windows), PLAN_NUMBER_LIMIT)) + b"".join(WINDOW.pack(*window) for window in windows)
 
 
 def windows_of(file) -> List[Window]:
     """The windows of an accepted plan."""
-    return [Window(*pair) for pair in struct.iter_unpack("<II", memoryview(file)[HEADER_LENGTH:])]
+    return [Window(*pair) for pair in WINDOW.iter_unpack(memoryview(file)[HEADER_LENGTH:])]

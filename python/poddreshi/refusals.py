@@ -1,5 +1,4 @@
 """Refusals in words. QUESTIONS is the one table of them; docs/FORMAT.md has the same."""
-import struct
 from typing import Dict, NamedTuple, Optional, Sequence
 
 from . import figures
@@ -78,17 +77,24 @@ def question(number: int) -> str:
 def _words(number: int, input: int, position: int, asked: Asked) -> str:
     if number not in QUESTIONS:
         return "this question is newer than the package"
-    facts = dict(vars(figures), position=position)
-    if asked.plans and number <= 6:
-        facts.update(_plan_facts(asked, input, position))
-    elif number == 7:
-        facts.update(_position_facts(asked, input))
-    elif number >= 9:
-        facts.update(_tag_facts(asked, number, input))
     try:
-        return QUESTIONS[number].says.format_map(facts)
+        return QUESTIONS[number].says.format_map(_facts(input, position, asked))
     except KeyError:  # A refusal made by hand, or an input that was not kept: the question says what is wanted.
         return f"the answer is no to: {question(number)}"
+
+
+def _facts(input: int, position: int, asked: Asked) -> dict:
+    """All that can be told of the inputs of a call; a question's words take what they need."""
+    facts = dict(vars(figures), position=position)
+    if asked.plans:
+        facts.update(_plan_facts(asked, input, position))
+    if asked.tag_file is not None:
+        facts.update(_tag_file_facts(asked.tag_file))
+    if input < len(asked.tags):
+        facts.update(_tag_facts(asked.tags, input))
+    if input < len(asked.positions):
+        facts["at"] = f"{asked.positions[input]:,}"
+    return facts
 
 
 def _bytes(data: bytes, limit: int) -> str:
@@ -96,66 +102,52 @@ def _bytes(data: bytes, limit: int) -> str:
     return f"more than {counted(limit, 'byte')}" if len(data) > limit else counted(len(data), "byte")
 
 
+def _which(thing: str, inputs: Sequence[bytes], input: int) -> str:
+    return f"the {thing}" if len(inputs) == 1 else f"the {ordinal(input)} {thing}"
+
+
+def _holder(holder: str, count: int, thing: str) -> str:
+    positions = f", 0 to {count - 1:,}" if count > 1 else ", window 0" if count else ""
+    return f"{holder} has {counted(count, thing)}{positions}"
+
+
 def _plan_facts(asked: Asked, input: int, position: int) -> dict:
-    file = asked.plans[input] if input < len(asked.plans) else asked.plans[0]
-    facts = {
-        "the_plan": "the plan" if len(asked.plans) == 1 else f"the {ordinal(input)} plan",
-        "bytes": _bytes(file, figures.PLAN_LIMIT),
-    }
+    input = min(input, len(asked.plans) - 1)  # where the second of two positions is at fault there is one plan
+    file = asked.plans[input]
+    facts = {"the_plan": _which("plan", asked.plans, input), "bytes": _bytes(file, figures.PLAN_LIMIT)}
     if len(file) >= figures.HEADER_LENGTH:
-        windows = struct.unpack_from("<H", file, 2)[0]
-        facts["windows"] = counted(windows, "window")
+        windows = figures.HEADER.unpack_from(file)[1]
+        facts["windows"], facts["holder"] = counted(windows, "window"), _holder("the plan", windows, "window")
         facts["wanted"] = figures.HEADER_LENGTH + figures.WINDOW_LENGTH * windows
     start = figures.HEADER_LENGTH + figures.WINDOW_LENGTH * (position - asked.before)
     if start + figures.WINDOW_LENGTH <= len(file):
-        offset, length = struct.unpack_from("<II", file, start)
+        offset, length = figures.WINDOW.unpack_from(file, start)
         facts.update(offset=offset, length=length, end=offset + length)
         if position > asked.before:
-            facts["before"] = struct.unpack_from("<I", file, start - figures.WINDOW_LENGTH)[0]
+            facts["before"] = figures.WINDOW.unpack_from(file, start - figures.WINDOW_LENGTH)[0]
     return facts
 
 
-def _position_facts(asked: Asked, input: int) -> dict:
-    if input >= len(asked.positions):
-        return {}
-    if asked.tag_file is not None:
-        holder, count, thing = "the tag file", len(asked.tag_file) // figures.TAG_LENGTH, "tag"
-    elif asked.plans:
-        holder, count, thing = "the plan", struct.unpack_from("<H", asked.plans[0], 2)[0], "window"
-    else:
-        return {}
-    last = f", 0 to {count - 1:,}" if count > 1 else ", window 0" if count else ""
-    return {"at": f"{asked.positions[input]:,}", "holder": f"{holder} has {counted(count, thing)}{last}"}
+def _tag_file_facts(tags: bytes) -> dict:
+    return {
+        "the_tag": "the tag file",
+        "bytes": counted(len(tags), "byte"),
+        "wanted": f"a tag file has a multiple of {figures.TAG_LENGTH}",
+        "holder": _holder("the tag file", len(tags) // figures.TAG_LENGTH, "tag"),
+    }
 
 
-def _tag_facts(asked: Asked, number: int, input: int) -> dict:
-    if asked.tag_file is not None and number == 9:
-        return {
-            "the_tag": "the tag file",
-            "bytes": counted(len(asked.tag_file), "byte"),
-            "wanted": f"a tag file has a multiple of {figures.TAG_LENGTH}",
-        }
-    if input >= len(asked.tags):
-        return {}
-    tag = asked.tags[input]
+def _tag_facts(tags: Sequence[bytes], input: int) -> dict:
     facts = {
-        "the_tag": "the tag" if len(asked.tags) == 1 else f"the {ordinal(input)} tag",
-        "bytes": _bytes(tag, figures.TAG_LENGTH),
+        "the_tag": _which("tag", tags, input),
+        "bytes": _bytes(tags[input], figures.TAG_LENGTH),
         "wanted": f"a tag has {figures.TAG_LENGTH}",
     }
-    if number > 9:
-        facts.update(_field_facts(asked.tags, tag))
-    return facts
-
-
-def _field_facts(tags: Sequence[bytes], tag: bytes) -> dict:
-    fields = dict(zip(figures.TAG_FIELDS, struct.unpack("<5H", tag)))
-    above = [
-        f"{name.replace('last_rank', 'rank of the last')} {number:,}"
-        for name, number in fields.items()
-        if name != "plan" and number > figures.FIELD_LIMIT
-    ]
-    facts = {"fields": " and ".join(above), "component": fields["component"], "rank": fields["rank"]}
-    if len(tags) == 2 and len(tags[0]) == figures.TAG_LENGTH:
-        facts["plan"], facts["other_plan"] = (struct.unpack_from("<H", each)[0] for each in tags)
+    read = [figures.TAG.unpack(tag) if len(tag) == figures.TAG_LENGTH else None for tag in tags]
+    if read[input] is not None:
+        fields = dict(zip(figures.TAG_FIELDS, read[input]))
+        above = [f"{name} {field:,}" for name, field in fields.items() if field > figures.FIELD_LIMIT and name != "plan number"]
+        facts.update(fields=" and ".join(above), component=fields["component"], rank=fields["rank"])
+    if len(read) == 2 and None not in read:
+        facts["plan"], facts["other_plan"] = (tag[0] for tag in read)
     return facts

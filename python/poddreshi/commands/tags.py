@@ -5,7 +5,7 @@ from typing import Optional
 from .. import calls, files
 from ..commandline import Command, number, once
 from ..failures import ANSWERED, OTHERWISE, REFUSED, Failure, Mistake
-from ..figures import PLAN_LIMIT, TAG_LENGTH, TAGS_LIMIT
+from ..figures import PLAN_LIMIT, TAG_FIELDS, TAG_LENGTH, TAGS_LIMIT
 from ..refusals import Refused
 from ..replies import Reply, aligned
 
@@ -40,8 +40,7 @@ def _explain(args) -> Reply:
     else:
         tag = calls.lookup(_tag_file(args.tag), number(args.position))
     fields = calls.read(tag)
-    words = ("plan number", "component", "depth", "rank", "rank of the last")
-    text = aligned([(word, str(field)) for word, field in zip(words, fields)], right=(1,))
+    text = aligned([(name, str(field)) for name, field in zip(TAG_FIELDS, fields)], right=(1,))
     return Reply(text, fields._fields, [fields], fields._asdict())
 
 
