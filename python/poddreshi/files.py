@@ -133,15 +133,18 @@ def write(name: Optional[str], data: bytes) -> None:
 
 
 @contextlib.contextmanager
-def new_folder(path: Path) -> Iterator[Path]:
-    """A folder to fill, which takes its name when all of it is there. One of that name may stand there if it is empty."""
+def new_folder(path: Path, over: bool = False) -> Iterator[Path]:
+    """A folder to fill, which takes its name when all of it is there. One of that name that is not empty is in the way, or
+    goes where the new one stands over it."""
     path = Path(os.path.realpath(path))
     path.parent.mkdir(parents=True, exist_ok=True)
-    beside = Path(tempfile.mkdtemp(prefix=f".{path.name[:64]}.", dir=path.parent))
+    scratch = Path(tempfile.mkdtemp(prefix=f".{path.name[:64]}.", dir=path.parent))
     try:
-        yield beside
-        os.chmod(beside, _allowed(0o777))
-        os.rename(beside, path)
+        fresh = scratch / "new"
+        fresh.mkdir()
+        yield fresh
+        if over and path.exists():
+            path.rename(scratch / "old")
+        fresh.rename(path)
     finally:
-        if beside.exists():
-            shutil.rmtree(beside, ignore_errors=True)
+        shutil.rmtree(scratch, ignore_errors=True)

@@ -1,6 +1,5 @@
 """Laying down a tree that runs with no prover and no compiler, and that may be moved: every path in it is relative."""
 import os
-import shutil
 from pathlib import Path
 from typing import Dict
 
@@ -42,15 +41,12 @@ def _single_files(root: Path, built: Path) -> Dict[str, tuple]:
 
 def _folder(target: Path, built: Path) -> None:
     """The package and the listing program, in a folder that is put in the place of an older one."""
-    older = target.with_name(target.name + ".older")
-    shutil.rmtree(older, ignore_errors=True)
-    with files.new_folder(target.with_name(target.name + ".newer")) as folder:
-        shutil.copytree(places.PACKAGE, folder / "poddreshi", ignore=shutil.ignore_patterns("__pycache__"))
-        shutil.copy(built / "lib" / "poddreshi" / "listing", folder / "listing")
-    if target.exists():
-        target.rename(older)
-    target.with_name(target.name + ".newer").rename(target)
-    shutil.rmtree(older, ignore_errors=True)
+    with files.new_folder(target, over=True) as folder:
+        for module in places.PACKAGE.rglob("*.py"):
+            copy = folder / module.relative_to(places.PACKAGE.parent)
+            copy.parent.mkdir(parents=True, exist_ok=True)
+            files.replace(copy, module.read_bytes(), 0o644)
+        files.replace(folder / "listing", (built / "lib" / "poddreshi" / "listing").read_bytes(), 0o755)
 
 
 def install(root: Path, built: Path, prefix: str) -> Path:

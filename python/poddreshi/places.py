@@ -8,6 +8,7 @@ from pathlib import Path
 from typing import Optional
 
 from . import sources
+from .failures import Failure
 
 LIBRARY = "libpoddreshi.so"
 PACKAGE = Path(__file__).resolve().parent
@@ -26,13 +27,13 @@ def built(root: Path) -> Path:
 
 
 def told() -> Optional[Path]:
-    """The library that the caller names."""
+    """The library that the caller names; a bare name is left to the system's loader."""
     name = os.environ.get("PODDRESHI_LIBRARY")
-    return Path(name) if name else None
+    return Path(os.path.abspath(name) if os.sep in name else name) if name else None
 
 
 def library() -> Path:
-    """The shared library; a bare name is left to the system's loader."""
+    """The shared library."""
     if told():
         return told()
     root = checkout()
@@ -43,5 +44,8 @@ def library() -> Path:
 
 
 def listing() -> Path:
-    """The listing program."""
-    return library().parent / "poddreshi" / "listing"
+    """The listing program. Beside a bare name it is not looked for: that would be in the folder where the user happens to be."""
+    path = library()
+    if not path.is_absolute():
+        raise Failure("the listing program stands beside the library; name that with its folder in PODDRESHI_LIBRARY")
+    return path.parent / "poddreshi" / "listing"

@@ -148,6 +148,9 @@ class Interface(unittest.TestCase):
         with tempfile.TemporaryDirectory() as folder:
             shutil.copytree(ROOT / "python", folder + "/python", ignore=shutil.ignore_patterns("__pycache__"))
             self.assertIn("install it, or name it in PODDRESHI_LIBRARY", self.without_library(folder + "/python"))
+            front = [sys.executable, "-m", "poddreshi", "list", str(ROOT / "examples" / "plan-12.plan")]
+            done = subprocess.run(front, env={"PYTHONPATH": folder + "/python", **PYTHON}, stderr=subprocess.PIPE)
+            self.assertEqual((done.returncode, b"the listing program stands beside the library" in done.stderr), (3, True))
             shutil.copy(ROOT / "crates.txt", folder)
             self.assertIn("run ./poddreshi build", self.without_library(folder + "/python"))
 
