@@ -7,7 +7,7 @@ from typing import NamedTuple, Optional, Tuple
 from . import library
 from .figures import PLAN_NUMBER_LIMIT, TAG, TAG_LENGTH, WINDOWS_LIMIT
 from .library import Kind, flat, lend, position, room, table
-from .refusals import Asked, Refused
+from .refusals import Asked, refusal
 from .wording import counted
 
 
@@ -118,7 +118,7 @@ def _ask(name: str, asked: Asked, *arguments) -> Tuple[Kind, list]:
         return kind, numbers
     if asked.tag_file is not None and numbers[0] > 9:  # a refusal of the tags that stand at the positions
         asked = Asked(tags=[lookup(asked.tag_file, at) for at in asked.positions])
-    raise Refused(*numbers, asked)
+    raise refusal(*numbers, asked)
 
 
 def validate(file) -> Accepted:

@@ -63,24 +63,29 @@ class Asked(NamedTuple):
 class Refused(Exception):
     """A "no" to one of the questions: its number, the input at fault (0 or 1), the position of a window or 0, and words."""
 
-    def __init__(self, number: int, input: int = 0, position: int = 0, asked: Asked = Asked()):
+    def __init__(self, number: int, input: int = 0, position: int = 0, words: str = ""):
         self.number, self.input, self.position = number, input, position
-        self.words = _words(number, input, position, asked)
-        super().__init__(f"refused by question {number}: {self.words}")
+        self.words = words or f'"no" to: {question(number)}'
+        super().__init__(number, input, position, self.words)
+
+    def __str__(self) -> str:
+        return f"refused by question {self.number}: {self.words}"
 
 
 def question(number: int) -> str:
     """A question as the formats' document has it."""
+    if number not in QUESTIONS:
+        return "a question that is newer than the package"
     return QUESTIONS[number].asks.format_map(vars(figures))
 
 
-def _words(number: int, input: int, position: int, asked: Asked) -> str:
-    if number not in QUESTIONS:
-        return "this question is newer than the package"
+def refusal(number: int, input: int, position: int, asked: Asked) -> Refused:
+    """A refusal with words that say what is wrong in the inputs of the call, where they can tell."""
     try:
-        return QUESTIONS[number].says.format_map(_facts(input, position, asked))
-    except KeyError:  # A refusal made by hand, or an input that was not kept: the question says what is wanted.
-        return f"the answer is no to: {question(number)}"
+        words = QUESTIONS[number].says.format_map(_facts(input, position, asked))
+    except KeyError:
+        words = ""
+    return Refused(number, input, position, words)
 
 
 def _facts(input: int, position: int, asked: Asked) -> dict:

@@ -12,7 +12,7 @@ from typing import Iterator, List, NamedTuple, Optional, Tuple
 from . import calls, times
 from .figures import LENGTH_LEAST, NUMBER_LIMIT, WINDOWS_LIMIT
 from .plans import Window, pack
-from .refusals import Asked, Refused
+from .refusals import Asked, Refused, refusal
 from .times import Clock
 
 _QUOTED = r'(?:(?<=\s)|^)"(?:[^"]|"")*"(?=\s|$)'
@@ -168,7 +168,7 @@ def _refusals(number: int, entries: List[Entry]) -> Iterator[Fault]:
                 calls.validate(file)
             except Refused as no:
                 if no.number in told:
-                    placed = Refused(no.number, 0, position, Asked(plans=[file], before=position - no.position))
+                    placed = refusal(no.number, 0, position, Asked(plans=[file], before=position - no.position))
                     yield Fault(entry.line, str(placed))
         before = [plain]
 

@@ -1,10 +1,12 @@
 """Refusals in words: what is wrong, and where."""
+import pickle
 import re
 import string
 import unittest
 
 from support import PLAN_12, ROOT, TAGS_12, Case, plan
 
+import poddreshi
 from poddreshi import figures, refusals
 
 
@@ -79,6 +81,13 @@ class Words(Case):
             for input in (0, 1):
                 self.assertTrue(str(refusals.Refused(number, input, 3)).startswith(f"refused by question {number}: "))
                 self.assertNotIn("{", str(refusals.Refused(number, input, 3)))
+                self.assertNotIn("{", str(refusals.refusal(number, input, 3, refusals.Asked())))
+
+    def test_a_refusal_can_be_sent_to_another_process(self):
+        with self.assertRaises(refusals.Refused) as caught:
+            poddreshi.reach(PLAN_12, 7)
+        sent = pickle.loads(pickle.dumps(caught.exception))
+        self.assertEqual((str(sent), sent.number, sent.input, sent.position), (str(caught.exception), 7, 0, 0))
 
     def test_the_formats_document_has_the_same_words(self):
         text = (ROOT / "docs" / "FORMAT.md").read_text(encoding="utf-8")

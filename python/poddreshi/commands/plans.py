@@ -6,7 +6,7 @@ from ..commandline import Command, given, number, reading
 from ..failures import REFUSED, Failure
 from ..figures import PLAN_LIMIT, PLAN_NUMBER_LIMIT, TEXT_LIMIT
 from ..given import Given
-from ..refusals import Asked, Refused
+from ..refusals import Asked, refusal
 from ..replies import Reply
 from ..times import Clock
 from ..wording import counted
@@ -32,7 +32,7 @@ def _list(args) -> Reply:
     first, *rows = ([int(word) for word in line.split() if word != "refused"] for line in text.splitlines())
     if text.startswith("refused"):
         if args.form != "text":
-            raise Refused(first[0], 0, first[1], Asked(plans=[file]))
+            raise refusal(first[0], 0, first[1], Asked(plans=[file]))
         return Reply(text, status=REFUSED)  # the line that paper 01 fixes
     data = dict(zip(("plan", "windows", "components"), first), tree=[dict(zip(_COLUMNS, row)) for row in rows])
     return Reply(text, _COLUMNS, rows, data)
