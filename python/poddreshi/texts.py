@@ -10,7 +10,7 @@ import unicodedata
 from typing import Iterator, List, NamedTuple, Optional, Tuple
 
 from . import calls, times
-from .figures import LENGTH_LEAST, NUMBER_LIMIT, WINDOWS_LIMIT
+from .figures import END_LIMIT, LENGTH_LEAST, NUMBER_LIMIT, WINDOWS_LIMIT
 from .plans import Window, pack
 from .refusals import Asked, Refused, refusal
 from .times import Clock
@@ -156,21 +156,23 @@ def parse(data: bytes, clock: Clock) -> Tuple[List[Entry], List[Fault]]:
     return entries, faults
 
 
-def _refusals(number: int, entries: List[Entry]) -> Iterator[Fault]:
-    """What the library refuses, asked of each window beside the one before it, so that one fault hides no other."""
+def _refusals(entries: List[Entry]) -> Iterator[Fault]:
+    """What the library refuses, asked of each window alone and then of its order, so that one fault hides no other."""
     before: List[Window] = []
     for position, entry in enumerate(entries):
-        plain = Window(entry.window.offset, LENGTH_LEAST)
-        # With the least length what is left to refuse is the order; an end past the limit has been told by then.
-        for windows, told in (([entry.window], (4, 5)), (before + [plain], (6,))):
-            file = pack(number, windows)
+        pair = before + [entry.window]
+        for windows, asked in (([entry.window], [entry.window]), (pair, [_faultless(window) for window in pair])):
             try:
-                calls.validate(file)
+                calls.validate(pack(0, asked))
             except Refused as no:
-                if no.number in told:
-                    placed = refusal(no.number, 0, position, Asked(plans=[file], before=position - no.position))
-                    yield Fault(entry.line, str(placed))
-        before = [plain]
+                known = Asked(plans=[pack(0, windows)], before=position - no.position)
+                yield Fault(entry.line, str(refusal(no.number, 0, position, known)))
+        before = [entry.window]
+
+
+def _faultless(window: Window) -> Window:
+    """A window of which nothing can be refused but its place among others."""
+    return Window(min(window.offset, END_LIMIT - LENGTH_LEAST), LENGTH_LEAST)
 
 
 def make(number: int, data: bytes, clock: Clock, sort: bool = False, empty: bool = False) -> Tuple[bytes, List[Entry]]:
@@ -180,7 +182,7 @@ def make(number: int, data: bytes, clock: Clock, sort: bool = False, empty: bool
         raise Faulty([Fault(1, "the text has no window; --empty makes a plan of none")])
     if sort:
         entries.sort(key=lambda entry: entry.window.offset)
-    faults += _refusals(number, entries)
+    faults += _refusals(entries)
     file = pack(number, [entry.window for entry in entries])
     try:
         calls.validate(file)

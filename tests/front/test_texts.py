@@ -82,6 +82,12 @@ class Faults(unittest.TestCase):
             "line 12: a name has no control characters",
         ])
 
+    def test_order_behind_an_end_that_is_too_late(self):
+        self.assertEqual(faults("10000000 1\n5 1\n"), [
+            "line 1: refused by question 5: window 0 of the plan ends at 10,000,001; an end is at most 10,000,000",
+            "line 2: refused by question 6: window 1 of the plan begins at 5, earlier than the window before it, at 10,000,000",
+        ])
+
     def test_dates(self):
         told = faults("2025-12-31 1\n2026-02-30 1\n2026-01-01 24:00 1\n2026-01-01 1h30\n", ORIGIN)
         self.assertEqual(told, [
