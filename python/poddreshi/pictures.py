@@ -42,6 +42,7 @@ class Panel(NamedTuple):
     axis: Axis
     top: float
     row: float
+    shown: FrozenSet[int]  # in all panels
     marked: FrozenSet[int]
 
     @property
@@ -78,11 +79,11 @@ def draw(scene: Scene) -> str:
     right = left + scene.chart
     wide = right + 150 + MARGIN
     drawing = Drawing()
-    top, marked = _heading(drawing, scene, wide), scene.marked
+    top, shown, marked = _heading(drawing, scene, wide), frozenset(scene.shown), scene.marked
     for positions in _panels(scene, rows):
         start, end = scene.span or (0, max(window.end for window in scene.plan.windows))
         axis = Axis([scene.plan.windows[at] for at in positions], start, end, left, right)
-        panel = Panel({position: at for at, position in enumerate(positions)}, axis, top + AXIS, row, marked)
+        panel = Panel({position: at for at, position in enumerate(positions)}, axis, top + AXIS, row, shown, marked)
         _panel(drawing, scene, panel, wide)
         top = panel.bottom + BELOW
     return drawing.finish(wide, top + MARGIN, title(scene), description(scene))
@@ -191,11 +192,12 @@ def _cut(drawing: Drawing, scene: Scene, panel: Panel, stretch) -> None:
 
 
 def _parents(drawing: Drawing, scene: Scene, panel: Panel) -> None:
-    """The parent covers the minute at which the window begins, so the line stands on that minute."""
+    """The parent covers the minute at which the window begins, so the line stands on that minute. To a parent in an earlier
+    panel it leads up out of this one."""
     opacity = 0.3 if scene.ends is not None else 0.75
     for position in panel.rows:
         parent, offset = scene.tree.parents[position], scene.plan.windows[position].offset
-        if parent == position or not panel.axis.start <= offset <= panel.axis.end:
+        if parent == position or parent not in panel.shown or not panel.axis.start <= offset <= panel.axis.end:
             continue
         above = panel.middle(parent) if parent in panel.rows else panel.top - 4
         x, colour = panel.axis.place(offset), _colour(scene, position)

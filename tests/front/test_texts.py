@@ -80,6 +80,7 @@ class Faults(unittest.TestCase):
             "line 10: an offset of 4,294,967,296 does not fit a plan file, which holds up to 4,294,967,295",
             "line 11: a length of 4,294,967,296 does not fit a plan file, which holds up to 4,294,967,295",
             "line 12: a name has no control characters",
+            "line 13: refused by question 6: window 4 of the plan begins at 9, earlier than the window before it, at 10,000,000",
         ])
 
     def test_order_behind_an_end_that_is_too_late(self):
