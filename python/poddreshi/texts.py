@@ -96,12 +96,19 @@ def clean(name: str) -> str:
     return name
 
 
+def _header(line: List[str], delimiter: str) -> List[str]:
+    """The first word of each cell: "Offset (minutes)" is an offset too."""
+    try:
+        return [(cell.lower().split() or [""])[0] for cell in next(csv.reader(line, delimiter=delimiter), [])]
+    except csv.Error:  # a zero byte, or a cell of great length
+        return []
+
+
 def csv_rows(lines: List[str], columns: Tuple[str, ...], wanted: int) -> Optional[Tuple[List[Row], List[Fault]]]:
     """The rows of CSV in the order of `columns`, or None where the first line is no header with the first `wanted` of them."""
     start = next((at for at, line in enumerate(lines) if uncommented(line)), len(lines))
     for delimiter in ",;\t":
-        cells = next(csv.reader(lines[start : start + 1], delimiter=delimiter), [])
-        header = [(cell.lower().split() or [""])[0] for cell in cells]  # "Offset (minutes)" is an offset too
+        header = _header(lines[start : start + 1], delimiter)
         if all(column in header for column in columns[:wanted]):
             break
     else:

@@ -83,6 +83,10 @@ class Faults(unittest.TestCase):
             "line 13: refused by question 6: window 4 of the plan begins at 9, earlier than the window before it, at 10,000,000",
         ])
 
+    def test_a_first_line_that_is_nothing(self):
+        for line in ("\0\0", "x" * 200_000, '"' * 9, ",;\t"):
+            self.assertEqual(len(faults(line)), 1)
+
     def test_order_behind_an_end_that_is_too_late(self):
         self.assertEqual(faults("10000000 1\n5 1\n"), [
             "line 1: refused by question 5: window 0 of the plan ends at 10,000,001; an end is at most 10,000,000",
