@@ -20,6 +20,7 @@ from .refusals import Refused
 from .replies import Reply
 from .texts import Faulty
 from .times import Clock
+from .wording import cited
 
 DESCRIPTION = """Service windows, their distance tree and ten-byte tags. PLAN, TEXT, TAGS, TAG and RIGS are files, or - for
 standard input."""
@@ -100,7 +101,7 @@ def date(words: str) -> datetime:
 def number(words: str, limit: Optional[int] = None, thing: str = "a position") -> int:
     """A decimal number of the command."""
     if not (words.isascii() and words.isdigit() and len(words) <= 40):
-        raise Mistake(f'{thing} is a number from 0, not "{words}"')
+        raise Mistake(f"{thing} is a number from 0, not {cited(words)}")
     if limit is not None and int(words) > limit:
         raise Mistake(f"{thing} is at most {limit:,}")
     return int(words)

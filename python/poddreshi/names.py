@@ -6,7 +6,7 @@ from .failures import Mistake
 from .plans import Window
 from .texts import Fault, Faulty, clean, csv_rows, lines_of, parse, unquoted, uncommented
 from .times import Clock
-from .wording import counted
+from .wording import cited, counted
 
 _POSITION = re.compile(r"\d{1,20}", re.ASCII)
 
@@ -26,9 +26,9 @@ class Names(list):
         if len(found) == 1:
             return found[0]
         if found:
-            raise Mistake(f'"{word}" is the name of {len(found)} windows: {", ".join(map(str, found[:8]))}')
+            raise Mistake(f"{cited(word)} is the name of {len(found)} windows: {', '.join(map(str, found[:8]))}")
         hint = "a position is a number from 0" + (", or a name" if any(self) else "; names come with --names")
-        raise Mistake(f'there is no window "{word}"; {hint}')
+        raise Mistake(f"there is no window {cited(word)}; {hint}")
 
 
 def unnamed(windows: List[Window]) -> Names:

@@ -4,6 +4,7 @@ from datetime import datetime, timedelta
 from typing import Optional
 
 from .failures import Mistake
+from .wording import cited
 
 MINUTE = timedelta(minutes=1)
 _DATE = re.compile(r"(\d{4})-(\d\d)-(\d\d)(?:(?:[ \t]+|T)(\d\d?):(\d\d))?", re.ASCII)
@@ -16,11 +17,11 @@ def date(words: str) -> datetime:
     """`2026-02-06`, `2026-02-06 08:00` or `2026-02-06T08:00`."""
     found = _DATE.fullmatch(words.strip())
     if not found:
-        raise ValueError(f'"{words}" is no date; write 2026-02-06, or 2026-02-06 08:00')
+        raise ValueError(f"{cited(words)} is no date; write 2026-02-06, or 2026-02-06 08:00")
     try:
         return datetime(*(int(part or 0) for part in found.groups()))
     except ValueError:
-        raise ValueError(f'"{words}" is no date of the calendar') from None
+        raise ValueError(f"{cited(words)} is no date of the calendar") from None
 
 
 def length(word: str) -> int:
@@ -29,7 +30,7 @@ def length(word: str) -> int:
         return int(word)
     found = _LENGTH.fullmatch(word) if word else None
     if not found:
-        raise ValueError(f'"{word}" is no length; write minutes (90), or days, hours and minutes (2d, 48h, 1h30m)')
+        raise ValueError(f"{cited(word)} is no length; write minutes (90), or days, hours and minutes (2d, 48h, 1h30m)")
     return sum(unit * int(part or 0) for unit, part in zip(_UNITS, found.groups()))
 
 
@@ -50,12 +51,12 @@ class Clock:
         if _NUMBER.fullmatch(words):
             return int(words)
         if not _DATE.fullmatch(words):
-            raise ValueError(f'"{words}" is no offset; write minutes (1440) or a date (2026-02-06 08:00)')
+            raise ValueError(f"{cited(words)} is no offset; write minutes (1440) or a date (2026-02-06 08:00)")
         if self.origin is None:
-            raise ValueError(f'"{words}" is a date; say with --origin which date minute 0 is')
+            raise ValueError(f"{cited(words)} is a date; say with --origin which date minute 0 is")
         minutes = (date(words) - self.origin) // MINUTE
         if minutes < 0:
-            raise ValueError(f'"{words}" lies before the origin, {stamp(self.origin)}')
+            raise ValueError(f"{cited(words)} lies before the origin, {stamp(self.origin)}")
         return minutes
 
     def date(self, minute: int) -> datetime:
