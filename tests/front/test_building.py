@@ -40,8 +40,9 @@ class Checkout(Case):
         (tools / "rt").chmod(0o755)
         self.log = self.folder / "rt.log"
         self.log.touch()
-        self.with_rt = {"PATH": f"{tools}:{self.bare()}:{os.environ['PATH']}", "RT_LOG": str(self.log), "BUILT": str(built())}
-        self.without = {"PATH": str(self.bare())}
+        own = {"PODDRESHI_LIBRARY": "", "RT_LOG": str(self.log), "BUILT": str(built())}
+        self.with_rt = {**own, "PATH": f"{tools}:{self.bare()}:{os.environ['PATH']}"}
+        self.without = {**own, "PATH": str(self.bare())}
         self.plan = self.file("12.plan", PLAN_12)
 
     def bare(self) -> Path:

@@ -20,7 +20,7 @@ class Installed(Case):
         bare = self.folder / "bare"
         bare.mkdir()
         (bare / "python3").symlink_to(sys.executable)
-        self.bare = {"PATH": str(bare)}
+        self.bare = {"PATH": str(bare), "PODDRESHI_LIBRARY": ""}
         self.plan = self.file("12.plan", PLAN_12)
 
     def there(self, *words, **options) -> bytes:
