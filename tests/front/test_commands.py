@@ -159,8 +159,11 @@ class Commands(Case):
         self.assertEqual(self.text("same", longer, "-", stdin=PLAN_12), told)
         self.assertEqual(
             self.text("same", self.plan, EXAMPLES / "plan-31.plan"),
-            "different: the first plan has 7 windows and the second 48\n",
+            "different: the first plan has 7 windows and the second 48 windows; "
+            "windows 0 and 3 overlap in the first plan and not in the second\n",
         )
+        told = "different: the first plan has 7 windows and the second 8 windows\n"
+        self.assertEqual(self.text("same", self.plan, "-", stdin=b"\x0c\0\x08" + PLAN_12[3:] + plan((99, 1))[4:]), told)
         apart, joined = plan((0, 1), (1, 1), (2, 1)), self.file("joined.plan", plan((0, 9), (1, 1), (2, 1)))
         told = "different: windows 0 and 1 overlap in the second plan and not in the first\n"
         self.assertEqual(self.text("same", "-", joined, stdin=apart), told)

@@ -1,5 +1,5 @@
 """chain, neighbours, reach, same: answers from plans."""
-from typing import Sequence, Tuple
+from typing import Optional, Sequence, Tuple
 
 from .. import calls, files
 from ..commandline import Command, given, number, once
@@ -7,7 +7,7 @@ from ..failures import ANSWERED, OTHERWISE
 from ..figures import PLAN_LIMIT
 from ..given import Given
 from ..replies import Reply, aligned
-from ..wording import ordinal
+from ..wording import counted, ordinal
 
 _COLUMNS = ("window", "name", "begin", "end")
 
@@ -50,14 +50,14 @@ def _reach(args) -> Reply:
     return Reply(str(found), ("position", "at_most"), [(at, found.bound)], {"position": at, "at_most": found.bound})
 
 
-def _difference(plans: Sequence[bytes], windows: int) -> Tuple[int, int, int]:
+def _difference(plans: Sequence[bytes], windows: int) -> Optional[Tuple[int, int, int]]:
     """The first position whose neighbours differ, the first window that overlaps it in one plan alone, and in which."""
     for position in range(windows):
         first, second = (set(calls.neighbours(file, position).positions) for file in plans)
         if first != second:
             other = min(first ^ second)
             return position, other, 0 if other in first else 1
-    raise ValueError("plans that are different differ in a pair")
+    return None
 
 
 def _same(args) -> Reply:
@@ -67,15 +67,17 @@ def _same(args) -> Reply:
     if calls.same(*plans).same:
         return Reply("same", header, [("same", "", "", "")], {"same": True})
     counts = [calls.validate(file).windows for file in plans]
-    data = {"same": False, "windows": counts}
+    data, words, pair = {"same": False, "windows": counts}, [], ["", ""]
     if counts[0] != counts[1]:
-        words, pair = f"the first plan has {counts[0]} windows and the second {counts[1]}", ("", "")
-    else:
-        *pair, holder = _difference(plans, counts[0])
+        words.append(f"the first plan has {counted(counts[0], 'window')} and the second {counted(counts[1], 'window')}")
+    found = _difference(plans, min(counts))
+    if found:
+        *pair, holder = found
         there, elsewhere = ordinal(holder), ordinal(1 - holder)
-        words = f"windows {pair[0]} and {pair[1]} overlap in the {there} plan and not in the {elsewhere}"
+        words.append(f"windows {pair[0]} and {pair[1]} overlap in the {there} plan and not in the {elsewhere}")
         data.update(position=pair[0], other=pair[1], overlap_in=there)
-    return Reply(f"different: {words}", header, [("different", words, *pair)], data, status=OTHERWISE)
+    row = ("different", "; ".join(words), *pair)
+    return Reply(": ".join(row[:2]), header, [row], data, status=OTHERWISE)
 
 
 def _chain_arguments(parser) -> None:
