@@ -53,6 +53,14 @@ def obey_modes() -> None:
         ctypes.CDLL(None).prctl(24, 1, 0, 0, 0)
 
 
+def needs_modes(test):
+    """Skips a test where that cannot be had."""
+    with tempfile.TemporaryDirectory() as folder:
+        os.chmod(folder, 0o555)
+        tried = subprocess.run(["touch", folder + "/x"], preexec_fn=obey_modes, stderr=subprocess.DEVNULL)
+    return unittest.skipIf(tried.returncode == 0, "the superuser is kept out of nothing here")(test)
+
+
 def _drained(descriptor: int) -> "tuple[threading.Thread, list]":
     parts = []
 

@@ -7,7 +7,7 @@ import sys
 import unittest
 from pathlib import Path
 
-from support import FRONT, LISTING_12, PLAN_12, ROOT, Case, built, obey_modes
+from support import FRONT, LISTING_12, PLAN_12, ROOT, Case, built, needs_modes, obey_modes
 
 RT = """\
 #!/bin/sh
@@ -111,6 +111,7 @@ class Checkout(Case):
         self.assertEqual(len(self.runs()), 4)
         self.assertEqual(len(list((self.root / "target" / "front").iterdir())), 1)
 
+    @needs_modes
     def test_a_checkout_that_cannot_be_written(self):
         unbuilt = self.folder / "unbuilt"
         shutil.copytree(self.root, unbuilt)

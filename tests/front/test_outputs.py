@@ -7,7 +7,7 @@ import sys
 import time
 import unittest
 
-from support import EXAMPLES, FRONT, PLAN_12, PYTHON, ROOT, TAGS_12, Case, obey_modes
+from support import EXAMPLES, FRONT, PLAN_12, PYTHON, ROOT, TAGS_12, Case, needs_modes, obey_modes
 
 PLAN_31 = EXAMPLES / "plan-31.plan"
 WRITING = (
@@ -104,6 +104,7 @@ class OutputFile(Case):
         self.unchanged()
         self.fails(3, "tags", PLAN_31, "-o", "/dev/full", about="/dev/full: no space left on device")
 
+    @needs_modes
     def test_a_folder_that_cannot_be_written(self):
         self.folder.chmod(0o555)
         self.fails(3, "draw", PLAN_31, "-o", "old", front=FRONT, preexec_fn=obey_modes, about="old: permission denied")
