@@ -112,6 +112,16 @@ class Pictures(Case):
         self.assertTrue(all(float(bar.get("width")) >= 10 for bar in self.bars(sheet)))
         self.drawn(year, "2", "7", *options)
 
+    def test_the_pictures_in_docs(self):
+        """They are what `draw` draws now; where that has changed for the better, draw them again."""
+        options = ("--origin", "2026-01-01", "--names", EXAMPLES / "year.txt")
+        year = self.answers("plan", 40, EXAMPLES / "year.txt", *options[:2])
+        for name, picture in {
+            "plan-12-chain.svg": self.answers("draw", "-", 3, 5, stdin=PLAN_12),
+            "year.svg": self.answers("draw", "-", *options, stdin=year),
+        }.items():
+            self.assertEqual((ROOT / "docs" / "pictures" / name).read_bytes(), picture, name)
+
     def test_the_largest_plan(self):
         sheet = self.drawn(line_plan(), "0", "2047")
         self.assertEqual(len(self.bars(sheet)), 2048)
