@@ -96,6 +96,8 @@ class OutputFile(Case):
         self.fails(1, "tags", "-", "-o", "old", stdin=b"\0\0\0")
         self.fails(1, "plan", 1, "-", "-o", "old", stdin=b"5 0\n")
         self.fails(1, "draw", "-", 0, 9, "-o", "old", stdin=PLAN_12)
+        done = self.run_front("list", "-", "-o", "old", stdin=b"\0\0\0")
+        self.assertEqual((done.returncode, done.stdout, done.stderr), (1, b"refused 1 0\n", b""))
         self.unchanged()
 
     def test_a_full_disk_leaves_the_old_file(self):

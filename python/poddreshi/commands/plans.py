@@ -33,7 +33,8 @@ def _list(args) -> Reply:
     if text.startswith("refused"):
         if args.form != "text":
             raise refusal(first[0], 0, first[1], Asked(plans=[file]))
-        return Reply(text, status=REFUSED)  # the line that paper 01 fixes
+        args.output = None  # the line that paper 01 fixes is for standard output, and a file stays as it was
+        return Reply(text, status=REFUSED)
     data = dict(zip(("plan", "windows", "components"), first), tree=[dict(zip(_COLUMNS, row)) for row in rows])
     return Reply(text, _COLUMNS, rows, data)
 
