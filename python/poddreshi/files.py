@@ -2,6 +2,7 @@
 import contextlib
 import errno
 import os
+import select
 import shutil
 import stat
 import sys
@@ -12,6 +13,8 @@ from typing import BinaryIO, Iterator, Optional
 from .failures import Failure
 
 STANDARD_INPUT, STANDARD_OUTPUT = "standard input", "standard output"
+_STREAMS = ("/dev/std", "/dev/fd/", "/proc/")
+_BESIDE = ".poddreshi."  # how the name of a file or folder begins that is not yet whole
 _closed = set()
 
 
@@ -65,7 +68,10 @@ def read_whole(name: str, limit: int, thing: str) -> bytes:
 def _write_all(descriptor: int, data: bytes) -> None:
     rest = memoryview(data)
     while rest:
-        rest = rest[os.write(descriptor, rest) :]
+        try:
+            rest = rest[os.write(descriptor, rest) :]
+        except BlockingIOError:  # whoever opened the pipe does not wait for it; we do
+            select.select([], [descriptor], [])
 
 
 def _write_standard_output(data: bytes) -> None:
@@ -73,7 +79,7 @@ def _write_standard_output(data: bytes) -> None:
         if 1 in _closed:
             raise OSError(errno.EBADF, os.strerror(errno.EBADF))
         _write_all(1, data)
-        # Some file systems tell of a full disk only when the last descriptor is closed.
+        # Some file systems tell of a full disk only when a descriptor is closed.
         os.close(os.dup(1))
     except OSError as error:
         raise Failure.of(STANDARD_OUTPUT, error) from None
@@ -96,7 +102,7 @@ def _mode(path: Path) -> int:
 
 def replace(path: Path, data: bytes, mode: Optional[int] = None) -> None:
     """Writes a file beside and renames it, so that the old one stays until the new one is whole."""
-    descriptor, beside = tempfile.mkstemp(prefix=f".{path.name[:64]}.", dir=path.parent)
+    descriptor, beside = tempfile.mkstemp(prefix=_BESIDE, dir=path.parent)
     try:
         try:
             _write_all(descriptor, data)
@@ -118,7 +124,7 @@ def write(name: Optional[str], data: bytes) -> None:
         return
     try:
         # /dev/stdout may lead to a file that others write to as well, so it is not replaced.
-        if name.startswith(("/dev/", "/proc/")) or os.path.exists(name) and not os.path.isfile(name):
+        if name.startswith(_STREAMS) or os.path.exists(name) and not os.path.isfile(name):
             descriptor = os.open(name, os.O_WRONLY | os.O_APPEND)
             try:
                 _write_all(descriptor, data)
@@ -138,7 +144,7 @@ def new_folder(path: Path, over: bool = False) -> Iterator[Path]:
     goes where the new one stands over it."""
     path = Path(os.path.realpath(path))
     path.parent.mkdir(parents=True, exist_ok=True)
-    scratch = Path(tempfile.mkdtemp(prefix=f".{path.name[:64]}.", dir=path.parent))
+    scratch = Path(tempfile.mkdtemp(prefix=_BESIDE, dir=path.parent))
     try:
         fresh = scratch / "new"
         fresh.mkdir()

@@ -7,7 +7,7 @@ import sys
 import time
 import unittest
 
-from support import EXAMPLES, FRONT, PLAN_12, PYTHON, ROOT, TAGS_12, Case, needs_modes, obey_modes
+from support import EXAMPLES, FRONT, PLAN_12, PYTHON, ROOT, TAGS_12, Case, line_plan, needs_modes, obey_modes
 
 PLAN_31 = EXAMPLES / "plan-31.plan"
 WRITING = (
@@ -66,11 +66,16 @@ class StandardOutput(Case):
         subprocess.run([sys.executable, "-c", code], env=environment, preexec_fn=lambda: os.close(1), check=True)
 
     def test_long_output_through_a_slow_pipe(self):
-        command = [sys.executable, str(FRONT), "draw", str(PLAN_31)]
-        with subprocess.Popen(command, stdout=subprocess.PIPE) as front:
-            time.sleep(0.3)
-            self.assertEqual(front.stdout.read(), self.answers("draw", PLAN_31))
-        self.assertEqual(front.returncode, 0)
+        plan = self.file("long.plan", line_plan())
+        for blocking in (True, False):
+            reading, writing = os.pipe()
+            os.set_blocking(writing, blocking)
+            with subprocess.Popen([sys.executable, str(FRONT), "draw", plan], stdout=writing) as front:
+                os.close(writing)
+                time.sleep(0.5)
+                with open(reading, "rb") as pipe:
+                    self.assertEqual(pipe.read(), self.answers("draw", plan))
+            self.assertEqual(front.returncode, 0)
 
 
 class OutputFile(Case):
@@ -129,6 +134,16 @@ class OutputFile(Case):
         with subprocess.Popen(["cat", str(self.folder / "pipe")], stdout=subprocess.PIPE) as reader:
             self.answers("tags", EXAMPLES / "plan-12.plan", "-o", "pipe")
             self.assertEqual(reader.stdout.read(), TAGS_12)
+
+    def test_long_names(self):
+        name = "渡" * 80  # 240 bytes
+        self.answers("tags", EXAMPLES / "plan-12.plan", "-o", name)
+        self.assertEqual((self.folder / name).read_bytes(), TAGS_12)
+
+    def test_an_empty_folder_is_filled(self):
+        (self.folder / "cabinets").mkdir()
+        self.answers("tags", EXAMPLES / "plan-12.plan", "--into", "cabinets")
+        self.assertEqual(len(list((self.folder / "cabinets").iterdir())), 7)
 
     def test_a_plan_may_be_written_over_itself(self):
         (self.folder / "plan").write_bytes(PLAN_12)
