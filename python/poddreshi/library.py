@@ -4,7 +4,7 @@ from enum import IntEnum
 from functools import lru_cache
 from typing import List, Tuple
 
-from . import figures, places, shim
+from . import figures, places
 
 _READ = (ctypes.c_void_p, ctypes.c_size_t)  # bytes lent to be read
 _BYTES = (ctypes.POINTER(ctypes.c_uint8), ctypes.c_size_t)  # bytes lent to be written
@@ -54,8 +54,6 @@ def _library() -> ctypes.CDLL:
     try:
         library = ctypes.CDLL(str(path))
         for name, arguments in CALLS.items():
-            if name in shim.CALLS and not hasattr(library, "poddreshi_" + name):
-                continue
             function = getattr(library, "poddreshi_" + name)
             function.argtypes, function.restype = arguments, ctypes.c_uint64
     except OSError:
@@ -73,8 +71,6 @@ def _hint() -> str:
 
 def ask(name: str, *arguments) -> Tuple[Kind, List[int]]:
     """The kind of a call's answer and its three other fields."""
-    if name in shim.CALLS and not hasattr(_library(), "poddreshi_" + name):
-        return shim.CALLS[name](ask, *arguments)
     answer = getattr(_library(), "poddreshi_" + name)(*arguments)
     kind, *numbers = ((answer >> (16 * field)) & 0xFFFF for field in range(4))
     return Kind(kind), numbers

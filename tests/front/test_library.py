@@ -13,7 +13,7 @@ from ctypes.util import find_library
 from support import PLAN_12, PYTHON, ROOT, TAGS_12, plan
 
 import poddreshi
-from poddreshi import library, shim
+from poddreshi import library
 
 
 def refusal(call, *arguments):
@@ -111,8 +111,7 @@ class Interface(unittest.TestCase):
 
     def test_every_call_of_the_header(self):
         found = dict(re.findall(r"^uint64_t poddreshi_(\w+)\(([^;]*)\);", self.HEADER, re.M | re.S))
-        waiting = set(shim.CALLS) - set(found)  # TO BE DELETED with the shim
-        self.assertEqual(set(library.CALLS) - waiting, set(found))
+        self.assertEqual(set(library.CALLS), set(found))
         sizes = {"uint8_t *": ctypes.c_void_p, "uint16_t *": ctypes.c_void_p, "size_t *": ctypes.c_void_p}
         for name, arguments in found.items():
             for declared, here in zip(re.split(r",\s*", arguments), library.CALLS[name]):
