@@ -2,6 +2,11 @@
  *
  *   reader FIRST SECOND        two files of ten bytes each
  *
+ * Compiled in a checkout, after ./poddreshi build, or against an installed tree:
+ *
+ *   cc -O2 -Iinclude examples/reader.c target/staticlib/libpoddreshi.a -o reader
+ *   cc -O2 reader.c $(pkg-config --cflags --libs poddreshi) -o reader
+ *
  * Prints the count, or that no chain joins the windows, or the refusal with its number. Exit status 0 for an answer, 1 for
  * a refusal, 2 where a file cannot be read. */
 #include <stdio.h>

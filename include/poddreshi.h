@@ -27,6 +27,9 @@
 #ifndef PODDRESHI_H
 #define PODDRESHI_H
 
+/* The version of the library that this header belongs to. */
+#define PODDRESHI_VERSION "1.0.0"
+
 #include <stddef.h>
 #include <stdint.h>
 

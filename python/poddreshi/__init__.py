@@ -1,0 +1,25 @@
+"""Poddreshi from Python: service windows, their distance tree and ten-byte tags, over the proved library.
+
+    >>> import pathlib, poddreshi
+    >>> plan = pathlib.Path("examples/plan-12.plan").read_bytes()
+    >>> poddreshi.chain(plan, 1, 5)
+    Chain(positions=(5, 4, 2, 1))
+    >>> tags = poddreshi.tags(plan).tags
+    >>> print(poddreshi.pair(tags[40:50], tags[50:60]))
+    1 handover
+
+A plan, a tag and a tag file are bytes, a bytearray or a memoryview. A refusal is raised as Refused. The library is loaded at
+the first call, from the built checkout or the installed tree that the package stands in, or from PODDRESHI_LIBRARY.
+"""
+from ._version import __version__
+from .calls import Accepted, Chain, Handovers, Neighbours, Reach, Sameness, Tag, Tags, Tree
+from .calls import build, chain, lookup, neighbours, pair, pair_at, reach, read, same, tags, validate, write
+from .library import LibraryMissing
+from .plans import Window, pack, windows_of
+from .refusals import Refused
+
+__all__ = [
+    *("Accepted", "Chain", "Handovers", "LibraryMissing", "Neighbours", "Reach", "Refused", "Sameness", "Tag", "Tags", "Tree"),
+    *("Window", "__version__", "build", "chain", "lookup", "neighbours", "pack", "pair", "pair_at", "reach", "read", "same"),
+    *("tags", "validate", "windows_of", "write"),
+]

@@ -1,0 +1,85 @@
+"""Building in a checkout: the prover makes the static library and the listing program, a C compiler the shared library.
+
+What is built stands in a folder named for the content of its sources, so it is there or it is not: nothing is judged by file
+times, and a copied or moved checkout stays built.
+"""
+import contextlib
+import fcntl
+import os
+import shutil
+import subprocess
+import sys
+from pathlib import Path
+from typing import Iterator, List
+
+from . import files, places
+from .failures import Failure
+
+HOW_LONG = "some three minutes on two processors the first time, and less after a change"
+STATIC = "libpoddreshi.a"
+
+
+def say(words: str) -> None:
+    print(f"poddreshi: {words}", file=sys.stderr, flush=True)
+
+
+def ensure(root: Path) -> Path:
+    """The folder of what is built, which is made where it is missing."""
+    done = places.built(root)
+    if done.is_dir():
+        return done
+    _needed("rt", "which proves and builds it")
+    _needed(_compiler()[0], "a C compiler, which makes the shared library")
+    try:
+        (root / "target").mkdir(exist_ok=True)
+        with _alone(root / "target" / "front.lock"):
+            if not done.is_dir():
+                _make(root, done)
+    except OSError as error:
+        raise Failure.of(f"the library is not built, and it cannot be built in {root}", error) from None
+    return done
+
+
+def _needed(program: str, what: str) -> None:
+    if not shutil.which(program):
+        raise Failure(f"the library is not built for these sources, and {program}, {what}, is not on the path")
+
+
+def _compiler() -> List[str]:
+    return os.environ.get("CC", "").split() or ["cc"]
+
+
+@contextlib.contextmanager
+def _alone(lock: Path) -> Iterator[None]:
+    """One at a time; whoever comes second waits."""
+    with open(lock, "w") as held:
+        try:
+            fcntl.flock(held, fcntl.LOCK_EX | fcntl.LOCK_NB)
+        except BlockingIOError:
+            say("another command is building the library; waiting for it")
+            fcntl.flock(held, fcntl.LOCK_EX)
+        yield
+
+
+def _make(root: Path, done: Path) -> None:
+    say(f"proving and building the library: {HOW_LONG}")
+    _run(root, ["rt", "staticlib", "poddreshi"], "the library is not proved, so it was not built")
+    _run(root, ["rt", "check", "listing"], "the listing program is not proved, so it was not built")
+    older = list(done.parent.iterdir()) if done.parent.is_dir() else []
+    with files.new_folder(done) as folder:
+        lib = folder / "lib"
+        (lib / "poddreshi").mkdir(parents=True)
+        shutil.copy(root / "target" / "staticlib" / STATIC, lib)
+        shutil.copy(root / "target" / "bin" / "listing", lib / "poddreshi")
+        archive = ["-Wl,--whole-archive", str(lib / STATIC), "-Wl,--no-whole-archive"]
+        linked = ["-shared", f"-Wl,-soname,{places.LIBRARY}", "-o", str(lib / places.LIBRARY), *archive]
+        _run(root, [*_compiler(), *linked], "the shared library could not be linked")
+    for folder in older:
+        shutil.rmtree(folder, ignore_errors=True)
+    say("built")
+
+
+def _run(root: Path, words: List[str], otherwise: str) -> None:
+    """A step of the build, with what it prints on standard error."""
+    if subprocess.run(words, cwd=root, stdin=subprocess.DEVNULL, stdout=sys.stderr).returncode:
+        raise Failure(otherwise)

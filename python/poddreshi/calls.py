@@ -1,0 +1,206 @@
+"""The calls of the library, each with an answer that has a text form. A refusal is raised as Refused.
+
+A plan, a tag and a tag file are bytes, a bytearray or a memoryview. Everything is decided in the library.
+"""
+from typing import NamedTuple, Optional, Tuple
+
+from . import library
+from .figures import PLAN_NUMBER_LIMIT, TAG, TAG_LENGTH, WINDOWS_LIMIT
+from .library import Kind, flat, lend, position, room, table
+from .refusals import Asked, refusal
+from .wording import counted
+
+
+class Accepted(NamedTuple):
+    plan: int
+    windows: int
+
+    def __str__(self) -> str:
+        return f"plan {self.plan}, {counted(self.windows, 'window')}"
+
+
+class Tags(NamedTuple):
+    """The tag file of a plan."""
+
+    plan: int
+    windows: int
+    components: int
+    tags: bytes
+
+    def __str__(self) -> str:
+        return f"plan {self.plan}, {counted(self.windows, 'window')}, {counted(self.components, 'component')}"
+
+
+class Tree(NamedTuple):
+    """The five tables, by position, and the tag file of a plan."""
+
+    plan: int
+    windows: int
+    components: int
+    parents: Tuple[int, ...]
+    component_of: Tuple[int, ...]
+    depths: Tuple[int, ...]
+    ranks: Tuple[int, ...]
+    last_ranks: Tuple[int, ...]
+    tags: bytes
+
+    __str__ = Tags.__str__
+
+
+class Handovers(NamedTuple):
+    """The least number of handovers between two windows, or None where no chain joins them."""
+
+    count: Optional[int]
+
+    def __str__(self) -> str:
+        if self.count is None:
+            return "no chain"
+        return counted(self.count, "handover") if self.count else "0 handovers"
+
+
+class Chain(NamedTuple):
+    """A shortest chain, from the later window to the earlier, or None where no chain joins them."""
+
+    positions: Optional[Tuple[int, ...]]
+
+    @property
+    def handovers(self) -> Handovers:
+        return Handovers(None if self.positions is None else len(self.positions) - 1)
+
+    def __str__(self) -> str:
+        return "no chain" if self.positions is None else " ".join(map(str, self.positions))
+
+
+class Neighbours(NamedTuple):
+    """The windows that overlap one window, rising, without itself."""
+
+    positions: Tuple[int, ...]
+
+    def __str__(self) -> str:
+        return " ".join(map(str, self.positions)) or "none"
+
+
+class Reach(NamedTuple):
+    """A bound: no two windows of the component are more handovers apart."""
+
+    bound: int
+
+    def __str__(self) -> str:
+        return f"at most {Handovers(self.bound)} between any two windows of its component"
+
+
+class Sameness(NamedTuple):
+    """Whether the same pairs of positions overlap in two plans."""
+
+    same: bool
+
+    def __str__(self) -> str:
+        return "same" if self.same else "different"
+
+
+class Tag(NamedTuple):
+    plan: int
+    component: int
+    depth: int
+    rank: int
+    last_rank: int
+
+    def __str__(self) -> str:
+        return (
+            f"plan {self.plan}, component {self.component}, depth {self.depth}, rank {self.rank}, "
+            f"rank of the last {self.last_rank}"
+        )
+
+
+def _ask(name: str, asked: Asked, *arguments) -> Tuple[Kind, list]:
+    kind, numbers = library.ask(name, *arguments)
+    if kind is not Kind.REFUSED:
+        return kind, numbers
+    if asked.tag_file is not None and numbers[0] > 9:  # a refusal of the tags that stand at the positions
+        asked = Asked(tags=[lookup(asked.tag_file, at) for at in asked.positions])
+    raise refusal(*numbers, asked)
+
+
+def validate(file) -> Accepted:
+    """Is the file that of an accepted plan?"""
+    _, (plan, windows, _) = _ask("validate", Asked(plans=[file]), *lend(file))
+    return Accepted(plan, windows)
+
+
+def build(file) -> Tree:
+    """The five tables and the tag file of a plan."""
+    tables, tags = [table(WINDOWS_LIMIT) for _ in range(5)], room(TAG_LENGTH * WINDOWS_LIMIT)
+    lent = [part for each in tables for part in each]
+    _, (plan, n, components) = _ask("build", Asked(plans=[file]), *lend(file), *lent, *tags)
+    return Tree(plan, n, components, *(tuple(each[0][:n]) for each in tables), bytes(tags[0][: TAG_LENGTH * n]))
+
+
+def tags(file) -> Tags:
+    """The tag file of a plan."""
+    out = room(TAG_LENGTH * WINDOWS_LIMIT)
+    _, (plan, n, components) = _ask("tags", Asked(plans=[file]), *lend(file), *out)
+    return Tags(plan, n, components, bytes(out[0][: TAG_LENGTH * n]))
+
+
+def reach(file, at: int) -> Reach:
+    """A bound on the handovers between any two windows of a window's component."""
+    _, (bound, _, _) = _ask("reach", Asked(plans=[file], positions=[at]), *lend(file), position(at))
+    return Reach(bound)
+
+
+def chain(file, first: int, second: int) -> Chain:
+    """A shortest chain between two windows, and of those the one with the earliest window at each step."""
+    asked, out = Asked(plans=[file], positions=[first, second]), table(WINDOWS_LIMIT)
+    kind, (entries, _, _) = _ask("chain", asked, *lend(file), position(first), position(second), *out)
+    return Chain(tuple(out[0][:entries]) if kind is Kind.CHAIN else None)
+
+
+def neighbours(file, at: int) -> Neighbours:
+    """The windows that overlap one window."""
+    out = table(WINDOWS_LIMIT)
+    _, (count, _, _) = _ask("neighbours", Asked(plans=[file], positions=[at]), *lend(file), position(at), *out)
+    return Neighbours(tuple(out[0][:count]))
+
+
+def same(first, second) -> Sameness:
+    """Do the same pairs of positions overlap in both plans?"""
+    kind, _ = _ask("same", Asked(plans=[first, second]), *lend(first), *lend(second))
+    return Sameness(kind is Kind.SAME)
+
+
+def _handovers(kind: Kind, numbers: list) -> Handovers:
+    return Handovers(numbers[0] if kind is Kind.HANDOVERS else None)
+
+
+def pair(first, second) -> Handovers:
+    """The least number of handovers between the windows of two tags, from the tags alone."""
+    return _handovers(*_ask("pair", Asked(tags=[first, second]), *lend(first), *lend(second)))
+
+
+def pair_at(tags, first: int, second: int) -> Handovers:
+    """The same for the tags at two positions of a tag file."""
+    asked = Asked(tag_file=tags, positions=[first, second])
+    return _handovers(*_ask("pair_at", asked, *lend(tags), position(first), position(second)))
+
+
+def lookup(tags, at: int) -> bytes:
+    """The tag at a position of a tag file."""
+    offset = library.offset()
+    _ask("lookup", Asked(tag_file=tags, positions=[at]), *lend(tags), position(at), offset)
+    return bytes(flat(tags)[offset.value : offset.value + TAG_LENGTH])
+
+
+def read(tag) -> Tag:
+    """The five numbers of a tag. A tag beside itself is refused just where the tag is."""
+    _ask("pair", Asked(tags=[tag]), *lend(tag), *lend(tag))
+    return Tag(*TAG.unpack(tag))
+
+
+def write(plan: int, component: int, depth: int, rank: int, last_rank: int) -> bytes:
+    """The ten bytes of a tag."""
+    numbers = (plan, component, depth, rank, last_rank)
+    if not all(0 <= number <= PLAN_NUMBER_LIMIT for number in numbers):
+        raise ValueError("a tag's numbers have two bytes")
+    out = room(TAG_LENGTH)
+    _ask("write", Asked(tags=[TAG.pack(*numbers)]), *numbers, *out)
+    return bytes(out[0])

@@ -1,0 +1,211 @@
+"""The command line: a subcommand is a Command, and its run gives a Reply. Here are the options that several share, and the one
+place where a reply is written and an exit status chosen."""
+import argparse
+import contextlib
+import os
+import shutil
+import signal
+import sys
+import textwrap
+from datetime import datetime
+from typing import Callable, Iterator, NamedTuple, Optional, Sequence
+
+from . import building, calls, failures, files, figures, names, places, times
+from ._version import __version__
+from .failures import Failure, Mistake
+from .given import Given
+from .library import LibraryMissing
+from .plans import windows_of
+from .refusals import Refused
+from .replies import Reply
+from .texts import Faulty
+from .times import Clock
+from .wording import cited
+
+DESCRIPTION = """Service windows, their distance tree and ten-byte tags. PLAN, TEXT, TAGS, TAG and RIGS are files, or - for
+standard input."""
+STATUS = """The exit status is 0 for an answer, 1 where an input is refused, 2 where the command is mistaken and 3 where an input
+or an output failed. With --exit-code it is 4 for the answers "no chain" and "different". A refusal goes to standard error in
+words."""
+WIDTH = min(shutil.get_terminal_size().columns, 100)  # of the help
+
+
+class Command(NamedTuple):
+    name: str
+    summary: str
+    arguments: Callable[["Parser"], object]
+    run: Callable[[argparse.Namespace], Reply]
+    examples: Sequence[str]
+    details: str = ""
+    needs_library: bool = True
+
+
+class _Tell(argparse.Action):
+    """Help and version go the way of every output, so that a full disk is seen."""
+
+    def __init__(self, *words, tells, **options):
+        super().__init__(*words, nargs=0, default=argparse.SUPPRESS, **options)
+        self.tells = tells
+
+    def __call__(self, parser, namespace, values, option_string=None):
+        files.write(None, self.tells(parser).encode())
+        raise SystemExit(failures.ANSWERED)
+
+
+class Parser(argparse.ArgumentParser):
+    def __init__(self, **options):
+        super().__init__(
+            add_help=False,
+            allow_abbrev=False,
+            formatter_class=lambda prog: argparse.RawDescriptionHelpFormatter(prog, max_help_position=26, width=WIDTH),
+            **options,
+        )
+        self.add_argument("-h", "--help", action=_Tell, tells=Parser.format_help, help="show this and exit")
+
+    def error(self, message: str):
+        raise Mistake(f"{message}; see {self.prog} --help")
+
+    def plan(self) -> None:
+        self.add_argument("plan", metavar="PLAN", help="a plan file")
+
+    def output(self) -> None:
+        self.add_argument("-o", "--output", metavar="FILE", help="write to a file, which is replaced when all is there")
+
+    def forms(self, *others: str) -> None:
+        """The forms of an answer beside text."""
+        group = self.add_mutually_exclusive_group()
+        for form in ("csv", "json", *others):
+            words = f"answer as {form.upper()}"
+            group.add_argument(f"--{form}", dest="form", action="store_const", const=form, default="text", help=words)
+        self.output()
+
+    def exit_code(self, answer: str) -> None:
+        self.add_argument("--exit-code", action="store_true", help=f'exit with 4 where the answer is "{answer}"')
+
+    def origin(self) -> None:
+        self.add_argument("--origin", metavar="DATE", type=date, help="the date of minute 0: 2026-01-01, or with a time")
+
+    def names(self) -> None:
+        words = "show names: the plan's own text, or lines of a position and a name"
+        self.add_argument("--names", metavar="FILE", help=words)
+        self.origin()
+
+
+def date(words: str) -> datetime:
+    try:
+        return times.date(words)
+    except ValueError as error:
+        raise argparse.ArgumentTypeError(str(error)) from None
+
+
+def number(words: str, limit: Optional[int] = None, thing: str = "a position") -> int:
+    """A decimal number of the command."""
+    if not (words.isascii() and words.isdigit() and len(words) <= 40):
+        raise Mistake(f"{thing} is a number from 0, not {cited(words)}")
+    if limit is not None and int(words) > limit:
+        raise Mistake(f"{thing} is at most {limit:,}")
+    return int(words)
+
+
+def given(args: argparse.Namespace) -> Given:
+    """The plan of the command, with names and dates where they were asked for."""
+    once(args.plan, args.names)
+    file = files.read(args.plan, figures.PLAN_LIMIT)
+    accepted, windows, clock = calls.validate(file), windows_of(file), Clock(args.origin)
+    named = names.unnamed(windows)
+    if args.names is not None:
+        with reading(args.names):
+            named = names.read(files.read_whole(args.names, figures.TEXT_LIMIT, "file of names"), windows, clock)
+    return Given(file, accepted.plan, windows, named, clock)
+
+
+def once(*inputs: Optional[str]) -> None:
+    if inputs.count("-") > 1:
+        raise Mistake("standard input can be one input and not two")
+
+
+@contextlib.contextmanager
+def reading(name: str) -> Iterator[None]:
+    """Says in which file the faults of a text are."""
+    try:
+        yield
+    except Faulty as bad:
+        bad.source = files.STANDARD_INPUT if name == "-" else name
+        raise
+
+
+def _filled(words: str) -> str:
+    return textwrap.fill(words, WIDTH, break_long_words=False, break_on_hyphens=False)
+
+
+def parser(commands: Sequence[Command]) -> Parser:
+    top = Parser(prog="poddreshi", description=_filled(DESCRIPTION), epilog=_filled(STATUS))
+    version = f"poddreshi {__version__}\n"
+    top.add_argument("--version", action=_Tell, tells=lambda _: version, help="show the version and exit")
+    below = top.add_subparsers(metavar="COMMAND", dest="command", required=True, parser_class=Parser)
+    for command in commands:
+        own = below.add_parser(
+            command.name,
+            help=command.summary,
+            description=_filled(f"{command.summary[0].upper()}{command.summary[1:]}. {command.details}"),
+            epilog="\n  ".join(["examples:", *command.examples]),
+        )
+        command.arguments(own)
+        own.set_defaults(run=command.run, needs_library=command.needs_library)
+    return top
+
+
+def say(line: str) -> None:
+    """A line on standard error. What an input holds is shown, and never obeyed by a terminal."""
+    shown = "".join(each if each.isprintable() else each.encode("unicode_escape").decode() for each in line)
+    with contextlib.suppress(OSError):
+        sys.stderr.write(shown + "\n")
+        sys.stderr.flush()
+
+
+def _answer(commands: Sequence[Command], words: Optional[Sequence[str]]) -> int:
+    args = parser(commands).parse_args(words)
+    root = places.checkout()
+    if args.needs_library and root and not places.told():
+        building.ensure(root)
+    reply = args.run(args)
+    files.write(getattr(args, "output", None), reply.encoded(getattr(args, "form", "text")))
+    for fault in reply.faults:
+        say(fault)
+    if reply.status == failures.OTHERWISE and not getattr(args, "exit_code", False):
+        return failures.ANSWERED
+    return reply.status
+
+
+def main(commands: Sequence[Command], words: Optional[Sequence[str]] = None) -> int:
+    """Runs a subcommand and gives the exit status; what goes wrong is told in a line and never by a traceback."""
+    files.hold_standard_streams()
+    signal.signal(signal.SIGTERM, lambda *_: sys.exit(128 + signal.SIGTERM))  # so that what stands beside is removed
+    try:
+        return _answer(commands, words)
+    except Refused as no:
+        say(str(no))
+        return failures.REFUSED
+    except Faulty as bad:
+        for fault in bad.faults:
+            say(f"{bad.source}, {fault}")
+        return failures.REFUSED
+    except Mistake as mistake:
+        say(f"poddreshi: {mistake}")
+        return failures.MISTAKEN
+    except (Failure, LibraryMissing) as failure:
+        say(f"poddreshi: {failure}")
+        return failures.FAILED
+    except OSError as error:
+        say(f"poddreshi: {Failure.of(error.filename or 'the system', error)}")
+        return failures.FAILED
+    except MemoryError:
+        say("poddreshi: there is too little memory")
+        return failures.FAILED
+    except KeyboardInterrupt:
+        return failures.INTERRUPTED
+    except Exception:
+        if os.environ.get("PODDRESHI_TRACEBACK"):
+            raise
+        say("poddreshi: something went wrong that should not have; PODDRESHI_TRACEBACK=1 shows where")
+        return failures.FAILED

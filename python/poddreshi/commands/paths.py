@@ -1,0 +1,145 @@
+"""chain, neighbours, reach, same: answers from plans."""
+from typing import Optional, Sequence, Tuple
+
+from .. import calls, files
+from ..commandline import Command, given, number, once
+from ..failures import ANSWERED, OTHERWISE
+from ..figures import PLAN_LIMIT
+from ..given import Given
+from ..replies import Reply, aligned
+from ..wording import counted, ordinal
+
+_COLUMNS = ("window", "name", "begin", "end")
+
+
+def _windows_text(plan: Given, positions: Sequence[int], bare: str) -> str:
+    """Positions on a line; where names or dates were asked for, a line for each window."""
+    if not positions or not (any(plan.names) or plan.clock.origin):
+        return bare
+    return aligned([plan.shown(position) for position in positions], right=(0,))
+
+
+def _chain(args) -> Reply:
+    plan = given(args)
+    first, second = plan.names.position(args.first), plan.names.position(args.second)
+    found = calls.chain(plan.file, first, second)
+    positions = found.positions or ()
+    rows = [(step, *plan.shown(position)) for step, position in enumerate(positions)]
+    data = {
+        "first": first,
+        "second": second,
+        "handovers": found.handovers.count,
+        "chain": None if found.positions is None else [plan.data(position) for position in positions],
+    }
+    status = OTHERWISE if found.positions is None else ANSWERED
+    return Reply(_windows_text(plan, positions, str(found)), ("step", *_COLUMNS), rows, data, status=status)
+
+
+def _neighbours(args) -> Reply:
+    plan = given(args)
+    at = plan.names.position(args.position)
+    found = calls.neighbours(plan.file, at)
+    data = {"position": at, "neighbours": [plan.data(position) for position in found.positions]}
+    rows = [plan.shown(position) for position in found.positions]
+    return Reply(_windows_text(plan, found.positions, str(found)), _COLUMNS, rows, data)
+
+
+def _reach(args) -> Reply:
+    at = number(args.position)
+    found = calls.reach(files.read(args.plan, PLAN_LIMIT), at)
+    return Reply(str(found), ("position", "at_most"), [(at, found.bound)], {"position": at, "at_most": found.bound})
+
+
+def _difference(plans: Sequence[bytes], windows: int) -> Optional[Tuple[int, int, int]]:
+    """The first position whose neighbours differ, the first window that overlaps it in one plan alone, and in which."""
+    for position in range(windows):
+        first, second = (set(calls.neighbours(file, position).positions) for file in plans)
+        if first != second:
+            other = min(first ^ second)
+            return position, other, 0 if other in first else 1
+    return None
+
+
+def _same(args) -> Reply:
+    once(args.first, args.second)
+    plans = [files.read(name, PLAN_LIMIT) for name in (args.first, args.second)]
+    header = ("answer", "difference", "position", "other")
+    if calls.same(*plans).same:
+        return Reply("same", header, [("same", "", "", "")], {"same": True})
+    counts = [calls.validate(file).windows for file in plans]
+    data, words, pair = {"same": False, "windows": counts}, [], ["", ""]
+    if counts[0] != counts[1]:
+        words.append(f"the first plan has {counted(counts[0], 'window')} and the second {counted(counts[1], 'window')}")
+    found = _difference(plans, min(counts))
+    if found:
+        *pair, holder = found
+        there, elsewhere = ordinal(holder), ordinal(1 - holder)
+        words.append(f"windows {pair[0]} and {pair[1]} overlap in the {there} plan and not in the {elsewhere}")
+        data.update(position=pair[0], other=pair[1], overlap_in=there)
+    row = ("different", "; ".join(words), *pair)
+    return Reply(": ".join(row[:2]), header, [row], data, status=OTHERWISE)
+
+
+def _chain_arguments(parser) -> None:
+    parser.plan()
+    parser.add_argument("first", metavar="FIRST", help="a position, or a name")
+    parser.add_argument("second", metavar="SECOND", help="a position, or a name")
+    parser.names()
+    parser.exit_code("no chain")
+    parser.forms()
+
+
+def _neighbours_arguments(parser) -> None:
+    parser.plan()
+    parser.add_argument("position", metavar="POSITION", help="a position, or a name")
+    parser.names()
+    parser.forms()
+
+
+def _reach_arguments(parser) -> None:
+    parser.plan()
+    parser.add_argument("position", metavar="POSITION", help="a window's position in the plan")
+    parser.forms()
+
+
+def _same_arguments(parser) -> None:
+    parser.add_argument("first", metavar="PLAN", help="a plan file")
+    parser.add_argument("second", metavar="PLAN", help="another")
+    parser.exit_code("different")
+    parser.forms()
+
+
+COMMANDS = [
+    Command(
+        "chain",
+        "a shortest chain between two windows, from the later to the earlier",
+        _chain_arguments,
+        _chain,
+        ["poddreshi chain examples/plan-12.plan 1 5", "poddreshi chain year.plan 3 9 --names year.txt --origin 2026-01-01"],
+        "Of the shortest chains it is the one with the earliest window at each step. With --names or --origin there is a line "
+        "for each window: position, name, begin and end.",
+    ),
+    Command(
+        "neighbours",
+        "the windows that overlap one window",
+        _neighbours_arguments,
+        _neighbours,
+        ["poddreshi neighbours examples/plan-12.plan 2"],
+    ),
+    Command(
+        "reach",
+        "a bound on the handovers between any two windows of a window's component",
+        _reach_arguments,
+        _reach,
+        ["poddreshi reach examples/plan-12.plan 5"],
+        "It is a bound: no two windows are further apart, and perhaps no two are so far.",
+    ),
+    Command(
+        "same",
+        "whether the same pairs of windows overlap in two plans",
+        _same_arguments,
+        _same,
+        ["poddreshi same examples/plan-12.plan other.plan --exit-code"],
+        "Where they differ, the first position and the first window that overlaps it in one of the plans alone are named.",
+    ),
+]

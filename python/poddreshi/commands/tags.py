@@ -1,0 +1,145 @@
+"""tags, tag, explain, count: tag files, tags, and the answer from two of them."""
+from pathlib import Path
+from typing import Optional
+
+from .. import calls, files
+from ..commandline import Command, number, once
+from ..failures import ANSWERED, OTHERWISE, REFUSED, Failure, Mistake
+from ..figures import PLAN_LIMIT, TAG_FIELDS, TAG_LENGTH, TAGS_LIMIT
+from ..refusals import Refused
+from ..replies import Reply, aligned
+
+
+def _tag_file(name: str) -> bytes:
+    return files.read_whole(name, TAGS_LIMIT, "tag file")
+
+
+def _tags(args) -> Reply:
+    made = calls.tags(files.read(args.plan, PLAN_LIMIT))
+    if args.into is None:
+        return Reply(content=made.tags)
+    if args.output is not None:
+        raise Mistake("tags writes to a file or into a folder, not both")
+    try:
+        with files.new_folder(Path(args.into)) as folder:
+            for position in range(made.windows):
+                files.replace(folder / f"{position:04}.tag", calls.lookup(made.tags, position))
+    except OSError as error:
+        raise Failure.of(args.into, error) from None
+    return Reply(f"{made}: a tag for each in {args.into}")
+
+
+def _tag(args) -> Reply:
+    at = number(args.position)
+    return Reply(content=calls.lookup(_tag_file(args.tags), at))
+
+
+def _explain(args) -> Reply:
+    if args.position is None:
+        tag = files.read(args.tag, TAG_LENGTH)
+    else:
+        tag = calls.lookup(_tag_file(args.tag), number(args.position))
+    fields = calls.read(tag)
+    text = aligned([(name, str(field)) for name, field in zip(TAG_FIELDS, fields)], right=(1,))
+    return Reply(text, fields._fields, [fields], fields._asdict())
+
+
+def _count(args) -> Reply:
+    if args.all:
+        if args.second is not None:
+            raise Mistake("count takes a tag file and one position with --all")
+        return _count_all(_tag_file(args.tags), number(args.first))
+    if args.second is not None:
+        first, second = number(args.first), number(args.second)
+        return _counted(calls.pair_at(_tag_file(args.tags), first, second), first, second)
+    once(args.tags, args.first)
+    first, second = files.read(args.tags, TAG_LENGTH), files.read(args.first, TAG_LENGTH)
+    return _counted(calls.pair(first, second))
+
+
+def _counted(answer: calls.Handovers, first: Optional[int] = None, second: Optional[int] = None) -> Reply:
+    named = {} if first is None else {"first": first, "second": second}
+    row = [*named.values(), str(answer) if answer.count is None else answer.count]
+    status = OTHERWISE if answer.count is None else ANSWERED
+    return Reply(str(answer), (*named, "handovers"), [row], {**named, "handovers": answer.count}, status=status)
+
+
+def _count_all(tags: bytes, first: int) -> Reply:
+    """One position beside every other; a tag that is refused spoils no other row."""
+    calls.lookup(tags, first)
+    rows, shown, data, faults = [], [], [], []
+    for second in range(len(tags) // TAG_LENGTH):
+        try:
+            answer = calls.pair_at(tags, first, second)
+            words, row = str(answer), {"second": second, "handovers": answer.count}
+        except Refused as no:
+            words, row = str(no), {"second": second, "refused": no.number}
+            faults.append(f"window {second}: {no}")
+        shown.append((str(second), words))
+        data.append(row)
+        rows.append((first, second, words if row.get("handovers") is None else row["handovers"]))
+    status = REFUSED if faults else ANSWERED
+    data = {"first": first, "counts": data}
+    return Reply(aligned(shown, right=(0,)), ("first", "second", "handovers"), rows, data, status=status, faults=faults)
+
+
+def _tags_arguments(parser) -> None:
+    parser.plan()
+    parser.add_argument("--into", metavar="DIR", help="a file of ten bytes for each window, 0000.tag and on, in a new folder")
+    parser.output()
+
+
+def _tag_arguments(parser) -> None:
+    parser.add_argument("tags", metavar="TAGS", help="a tag file")
+    parser.add_argument("position", metavar="POSITION", help="a window's position in the plan")
+    parser.output()
+
+
+def _explain_arguments(parser) -> None:
+    parser.add_argument("tag", metavar="TAG", help="a tag, or a tag file where a position follows")
+    parser.add_argument("position", metavar="POSITION", nargs="?", help="a position in the tag file")
+    parser.forms()
+
+
+def _count_arguments(parser) -> None:
+    forms = ("TAG TAG", "TAGS FIRST SECOND", "TAGS FIRST --all")
+    parser.usage = "\n       ".join(f"poddreshi count [options] {form}" for form in forms)
+    parser.add_argument("tags", metavar="TAGS", help="a tag file, or the first of two tags")
+    parser.add_argument("first", metavar="FIRST", help="a position, or the second of two tags")
+    parser.add_argument("second", metavar="SECOND", nargs="?", help="a position")
+    parser.add_argument("--all", action="store_true", help="between one position and every position of the tag file")
+    parser.exit_code("no chain")
+    parser.forms()
+
+
+COMMANDS = [
+    Command(
+        "tags",
+        "the tag file of a plan, ten bytes for each window",
+        _tags_arguments,
+        _tags,
+        ["poddreshi tags examples/plan-12.plan -o plan-12.tags", "poddreshi tags examples/plan-12.plan --into cabinets"],
+        "The folder of --into is new or empty, so that no cabinet is left with the tag of an older plan.",
+    ),
+    Command(
+        "tag",
+        "one tag of a tag file, ten bytes",
+        _tag_arguments,
+        _tag,
+        ["poddreshi tag plan-12.tags 4 -o 4.tag"],
+    ),
+    Command(
+        "explain",
+        "the five numbers of a tag",
+        _explain_arguments,
+        _explain,
+        ["poddreshi explain 4.tag", "poddreshi explain plan-12.tags 4"],
+    ),
+    Command(
+        "count",
+        "the least number of handovers between two windows, from their tags alone",
+        _count_arguments,
+        _count,
+        ["poddreshi count 4.tag 5.tag", "poddreshi count plan-12.tags 1 5", "poddreshi count plan-12.tags 1 --all --csv"],
+    ),
+]

@@ -1,0 +1,16 @@
+"""What ends a command early, and the exit status of each."""
+import os
+
+ANSWERED, REFUSED, MISTAKEN, FAILED, OTHERWISE, INTERRUPTED = 0, 1, 2, 3, 4, 130
+
+
+class Mistake(Exception):
+    """The command is mistaken."""
+
+
+class Failure(Exception):
+    """An input or an output failed, or what the command needs is not there."""
+
+    @classmethod
+    def of(cls, what: str, error: OSError) -> "Failure":
+        return cls(f"{what}: {(error.strerror or os.strerror(error.errno or 0)).lower()}")

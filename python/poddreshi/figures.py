@@ -1,0 +1,23 @@
+"""The figures of the formats, each in one place."""
+import struct
+
+HEADER = struct.Struct("<HH")  # of a plan file: plan number, number of windows
+HEADER_LENGTH = HEADER.size
+WINDOW = struct.Struct("<II")  # offset, length
+WINDOW_LENGTH = WINDOW.size
+WINDOWS_LIMIT = 2048  # windows of a plan, at most
+PLAN_LIMIT = HEADER_LENGTH + WINDOW_LENGTH * WINDOWS_LIMIT  # bytes of the longest plan file
+PLAN_NUMBER_LIMIT = 65535
+LENGTH_LEAST = 1  # the shortest window
+END_LIMIT = 10_000_000  # the greatest end of a window
+NUMBER_LIMIT = 2**32 - 1  # the greatest offset or length that a plan file can hold
+
+TAG = struct.Struct("<5H")
+TAG_LENGTH = TAG.size
+TAG_FIELDS = ("plan number", "component", "depth", "rank", "rank of the last")
+FIELD_LIMIT = 2047  # the greatest number in a tag's field after the plan number
+POSITION_LIMIT = 2**64 - 1  # the greatest position that the library can be asked about
+
+# What the command reads of an input. A tag file of a plan has 2,048 tags at most, but one may be put together of several.
+TAGS_LIMIT = 65_535 * TAG_LENGTH
+TEXT_LIMIT = 2**20

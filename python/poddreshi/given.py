@@ -1,0 +1,39 @@
+"""A plan that is answered from, with its names and its dates."""
+from typing import List, NamedTuple
+
+from .names import Names
+from .plans import Window
+from .times import Clock
+
+
+class Given(NamedTuple):
+    file: bytes
+    number: int
+    windows: List[Window]
+    names: Names
+    clock: Clock
+
+    def shown(self, position: int) -> list:
+        """A row of a table: the window, its name, begin and end."""
+        window = self.windows[position]
+        return [str(position), self.names[position], self.clock.show(window.offset), self.clock.show(window.end)]
+
+    def data(self, position: int) -> dict:
+        """The same for JSON."""
+        window = self.windows[position]
+        data = {"position": position, "name": self.names[position], "offset": window.offset, "length": window.length}
+        if self.clock.origin:
+            data.update(begin=self.clock.show(window.offset), end=self.clock.show(window.end))
+        return data
+
+    def interval(self, position: int) -> str:
+        """The same in words."""
+        window = self.windows[position]
+        if self.clock.origin is None:
+            return f"minutes {window.offset:,} to {window.end:,}"
+        return f"{self.clock.show(window.offset)} to {self.clock.show(window.end)}"
+
+
+def shared_minutes(one: Window, other: Window) -> tuple:
+    """The minutes that two overlapping windows share: the first of them, and the one after the last."""
+    return max(one.offset, other.offset), min(one.end, other.end)

@@ -1,0 +1,114 @@
+"""The C interface (poddreshi.h) by ctypes: each call's arguments stand once, in CALLS."""
+import ctypes
+from enum import IntEnum
+from functools import lru_cache
+from typing import List, Tuple
+
+from . import figures, places
+
+_READ = (ctypes.c_void_p, ctypes.c_size_t)  # bytes lent to be read
+_BYTES = (ctypes.POINTER(ctypes.c_uint8), ctypes.c_size_t)  # bytes lent to be written
+_TABLE = (ctypes.POINTER(ctypes.c_uint16), ctypes.c_size_t)  # numbers lent to be written
+_AT = (ctypes.c_size_t,)
+_FIELD = (ctypes.c_uint16,)
+
+CALLS = {
+    "validate": _READ,
+    "build": _READ + 5 * _TABLE + _BYTES,
+    "tags": _READ + _BYTES,
+    "reach": _READ + _AT,
+    "chain": _READ + 2 * _AT + _TABLE,
+    "neighbours": _READ + _AT + _TABLE,
+    "same": 2 * _READ,
+    "pair": 2 * _READ,
+    "pair_at": _READ + 2 * _AT,
+    "lookup": _READ + _AT + (ctypes.POINTER(ctypes.c_size_t),),
+    "write": 5 * _FIELD + _BYTES,
+}
+
+
+class Kind(IntEnum):
+    """What the first field of an answer says."""
+
+    REFUSED = 0
+    ACCEPTED = 1
+    BUILT = 2
+    REACH = 3
+    CHAIN = 4
+    NO_CHAIN = 5
+    NEIGHBOURS = 6
+    SAME = 7
+    DIFFERENT = 8
+    HANDOVERS = 9
+    FOUND = 10
+    WRITTEN = 11
+
+
+class LibraryMissing(OSError):
+    """The shared library is not there, or is older than the package."""
+
+
+@lru_cache(maxsize=None)
+def _library() -> ctypes.CDLL:
+    path = places.library()
+    try:
+        library = ctypes.CDLL(str(path))
+        for name, arguments in CALLS.items():
+            function = getattr(library, "poddreshi_" + name)
+            function.argtypes, function.restype = arguments, ctypes.c_uint64
+    except OSError:
+        raise LibraryMissing(f"the library {path} cannot be loaded; {_hint()}") from None
+    except AttributeError:
+        raise LibraryMissing(f"the library {path} is older than this package") from None
+    return library
+
+
+def _hint() -> str:
+    if places.told():
+        return "it is the one that PODDRESHI_LIBRARY names"
+    return "run ./poddreshi build" if places.checkout() else "install it, or name it in PODDRESHI_LIBRARY"
+
+
+def ask(name: str, *arguments) -> Tuple[Kind, List[int]]:
+    """The kind of a call's answer and its three other fields."""
+    answer = getattr(_library(), "poddreshi_" + name)(*arguments)
+    kind, *numbers = ((answer >> (16 * field)) & 0xFFFF for field in range(4))
+    return Kind(kind), numbers
+
+
+def flat(data):
+    """Bytes, or a view of them that lies in one piece."""
+    if isinstance(data, bytes):
+        return data
+    view = memoryview(data)
+    return view.cast("B") if view.c_contiguous and view.nbytes else view.tobytes()
+
+
+def lend(data) -> tuple:
+    """Bytes to be read, and how many. What can be is lent as it lies; ctypes cannot lend a view that is read-only."""
+    data = flat(data)
+    if isinstance(data, memoryview):
+        data = data.tobytes() if data.readonly else (ctypes.c_uint8 * data.nbytes).from_buffer(data)
+    return data, len(data)
+
+
+def table(entries: int) -> tuple:
+    """Room for two-byte numbers, and how many."""
+    return (ctypes.c_uint16 * entries)(), entries
+
+
+def room(length: int) -> tuple:
+    """Room for bytes, and how many."""
+    return (ctypes.c_uint8 * length)(), length
+
+
+def offset() -> ctypes.c_size_t:
+    """Room for the place of a tag."""
+    return ctypes.c_size_t()
+
+
+def position(at: int) -> int:
+    """A position as the call takes it. One that has more than 64 bits is past the end of every plan, as the greatest is."""
+    if at < 0:
+        raise ValueError("a position is a number from 0")
+    return min(at, figures.POSITION_LIMIT)

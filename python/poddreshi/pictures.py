@@ -1,0 +1,265 @@
+"""A plan as a picture: a bar for each window, panels of some rows with a time axis each, and a chain that is marked.
+
+Nothing is judged here, only placed: which windows overlap, a window's parent and the chain come from the library.
+"""
+from typing import Dict, FrozenSet, List, NamedTuple, Optional, Sequence, Tuple
+
+from .axes import Axis, marks
+from .calls import Tree
+from .given import Given, shared_minutes
+from .svg import Drawing, width
+from .times import length_words
+from .wording import counted
+
+COLOURS = ("#0072b2", "#d55e00", "#009e73", "#cc79a7", "#8a6d00", "#56b4e9", "#5b3a9e", "#7f7f7f")
+INK, GREY, FAINT, BAND = "#111111", "#555555", "#dcdcd6", "#f4f4f1"
+MARGIN, AXIS, BELOW = 16, 40, 14
+BAR_LEAST = 4
+ROWS = ((64, 22, 32), (256, 16, 40), (None, 12, 48))  # up to so many windows: height of a row, rows of a panel
+
+
+class Scene(NamedTuple):
+    """What is drawn."""
+
+    plan: Given
+    tree: Tree
+    shown: Sequence[int]
+    ends: Optional[Tuple[int, int]] = None
+    chain: Optional[Sequence[int]] = None
+    span: Optional[Tuple[int, int]] = None  # minutes to which the picture is cut
+    chart: float = 1000  # width of the bars' part
+
+    @property
+    def marked(self) -> FrozenSet[int]:
+        """The windows that stand out."""
+        return frozenset((*(self.ends or ()), *(self.chain or ())))
+
+
+class Panel(NamedTuple):
+    """Rows of windows with an axis of their own."""
+
+    rows: Dict[int, int]  # position to row
+    axis: Axis
+    top: float
+    row: float
+    shown: FrozenSet[int]  # in all panels
+    marked: FrozenSet[int]
+
+    @property
+    def bottom(self) -> float:
+        return self.top + self.row * len(self.rows)
+
+    def middle(self, position: int) -> float:
+        return self.top + self.row * (self.rows[position] + 0.5)
+
+
+def title(scene: Scene) -> str:
+    if scene.ends is None:
+        return f"Plan {scene.plan.number}: {counted(scene.tree.windows, 'window')}, {counted(scene.tree.components, 'component')}"
+    between = " and ".join(scene.plan.names.label(end) for end in scene.ends)
+    if scene.chain is None:
+        return f"Plan {scene.plan.number}: no chain between {between}"
+    return f"Plan {scene.plan.number}: {counted(len(scene.chain) - 1, 'handover')} between {between}"
+
+
+def description(scene: Scene) -> str:
+    """All of the chain, also where the picture is cut."""
+    if not scene.plan.windows:
+        return "The plan has no windows."
+    if scene.chain is None:
+        return f"{counted(len(scene.shown), 'window')} of {len(scene.plan.windows):,} are shown."
+    steps = "; ".join(f"{scene.plan.names.label(at)}, {scene.plan.interval(at)}" for at in scene.chain)
+    return f"The chain, from the later window to the earlier: {steps}."
+
+
+def draw(scene: Scene) -> str:
+    """The picture as SVG."""
+    row, rows = next((row, rows) for limit, row, rows in ROWS if limit is None or len(scene.shown) <= limit)
+    left = MARGIN + _label_width(scene, row) + 10
+    right = left + scene.chart
+    wide = right + 150 + MARGIN
+    drawing = Drawing()
+    top, shown, marked = _heading(drawing, scene, wide), frozenset(scene.shown), scene.marked
+    for positions in _panels(scene, rows):
+        start, end = scene.span or (0, max(window.end for window in scene.plan.windows))
+        axis = Axis([scene.plan.windows[at] for at in positions], start, end, left, right)
+        panel = Panel({position: at for at, position in enumerate(positions)}, axis, top + AXIS, row, shown, marked)
+        _panel(drawing, scene, panel, wide)
+        top = panel.bottom + BELOW
+    return drawing.finish(wide, top + MARGIN, title(scene), description(scene))
+
+
+def _label_width(scene: Scene, row: float) -> float:
+    """Room for positions, and for names up to a point."""
+    longest = max((width(_label(scene, at), _font(row)) for at in scene.shown), default=0)
+    return min(max(longest, 64), 220)
+
+
+def _label(scene: Scene, position: int) -> str:
+    return f"{scene.plan.names[position]}  {position}".strip()
+
+
+def _font(row: float) -> float:
+    return 12 if row >= 20 else 10.5 if row >= 16 else 9
+
+
+def _panels(scene: Scene, rows: int) -> List[List[int]]:
+    """Rows in panels of about equal height, which begin with a component where one begins near enough."""
+    if not scene.shown:
+        return []
+    count = -(-len(scene.shown) // rows)
+    wanted = -(-len(scene.shown) // count)
+    panels: List[List[int]] = [[]]
+    for position in scene.shown:
+        begins = scene.tree.parents[position] == position
+        if len(panels[-1]) >= rows or (begins and len(panels[-1]) >= 0.7 * wanted and count > 1):
+            panels.append([])
+        panels[-1].append(position)
+    return panels
+
+
+def _heading(drawing: Drawing, scene: Scene, wide: float) -> float:
+    room = wide - 2 * MARGIN
+    drawing.text(MARGIN, 30, title(scene), 20, INK, room)
+    drawing.text(MARGIN, 52, _subtitle(scene), 13, GREY, room)
+    return 60
+
+
+def _subtitle(scene: Scene) -> str:
+    if not scene.shown:
+        return "no window to show"
+    if scene.ends is None:
+        return "a line leads from a window up to its parent"
+    if scene.chain is None:
+        return "the two windows are outlined"
+    return f"chain {' '.join(map(str, scene.chain))} (from the later window to the earlier)"
+
+
+def _panel(drawing: Drawing, scene: Scene, panel: Panel, wide: float) -> None:
+    _bands(drawing, scene, panel, wide)
+    _axis(drawing, scene, panel)
+    _parents(drawing, scene, panel)
+    for position in panel.rows:
+        _bar(drawing, scene, panel, position)
+    _handovers(drawing, scene, panel)
+
+
+def _bands(drawing: Drawing, scene: Scene, panel: Panel, wide: float) -> None:
+    """Components are contiguous, so each is a band of rows; every second one is shaded."""
+    components, start = [scene.tree.component_of[position] for position in panel.rows], 0
+    for at, component in enumerate(components, 1):
+        if at < len(components) and components[at] == component:
+            continue
+        top, high = panel.top + panel.row * start, panel.row * (at - start)
+        if component % 2 == 0:
+            drawing.element("rect", x=0, y=top, width=wide, height=high, fill=BAND)
+        size, beside = min(_font(panel.row), 11), panel.axis.right + 12
+        drawing.text(beside, top + panel.row / 2 + size / 3, f"component {component}", size, GREY, wide - beside - MARGIN)
+        start = at
+
+
+def _axis(drawing: Drawing, scene: Scene, panel: Panel) -> None:
+    axis = panel.axis
+    units = ("", "minutes") if scene.plan.clock.origin is None else ("date", "time")
+    for unit, above in zip(units, (22, 9)):
+        drawing.text(MARGIN, panel.top - above, unit, 11, GREY, axis.left - MARGIN)
+    for mark in marks(axis, scene.plan.clock):
+        x = axis.place(mark.minute)
+        drawing.line(x, panel.top - 4, x, panel.bottom + 4, FAINT)
+        drawing.text(x, panel.top - 9, mark.label, 11, GREY, 74, "middle")
+        drawing.text(x, panel.top - 22, mark.date, 11, GREY, 74, "middle")
+    for stretch in axis.stretches:
+        if stretch.cut:
+            _cut(drawing, scene, panel, stretch)
+
+
+def _cut(drawing: Drawing, scene: Scene, panel: Panel, stretch) -> None:
+    """A stretch in which no window is: a white band, with two strokes on the axis."""
+    minutes = stretch.end - stretch.start
+    words = f"{minutes:,} minutes" if scene.plan.clock.origin is None else length_words(minutes)
+    drawing.element(
+        "rect",
+        title=f"no window for {words}",
+        x=stretch.left + 5,
+        y=panel.top - 4,
+        width=stretch.right - stretch.left - 10,
+        height=panel.bottom - panel.top + 8,
+        fill="#ffffff",
+    )
+    middle = (stretch.left + stretch.right) / 2
+    for x in (middle - 3, middle + 3):
+        drawing.line(x - 3, panel.top + 11, x + 3, panel.top, GREY, 1.2)
+
+
+def _parents(drawing: Drawing, scene: Scene, panel: Panel) -> None:
+    """The parent covers the minute at which the window begins, so the line stands on that minute. To a parent in an earlier
+    panel it leads up out of this one."""
+    opacity = 0.3 if scene.ends is not None else 0.75
+    for position in panel.rows:
+        parent, offset = scene.tree.parents[position], scene.plan.windows[position].offset
+        if parent == position or parent not in panel.shown or not panel.axis.start <= offset <= panel.axis.end:
+            continue
+        above = panel.middle(parent) if parent in panel.rows else panel.top - 4
+        x, colour = panel.axis.place(offset), _colour(scene, position)
+        drawing.line(x, above, x, panel.middle(position), colour, 1 if panel.row > 16 else 0.7, stroke_opacity=opacity)
+
+
+def _colour(scene: Scene, position: int) -> str:
+    return COLOURS[scene.tree.component_of[position] % len(COLOURS)]
+
+
+def _bar(drawing: Drawing, scene: Scene, panel: Panel, position: int) -> None:
+    window, marked = scene.plan.windows[position], position in panel.marked
+    left, right = panel.axis.place(window.offset), panel.axis.place(window.end)
+    wide = max(right - left, BAR_LEAST)
+    high = panel.row * 0.62
+    parent = scene.tree.parents[position]
+    told = (
+        f"{scene.plan.names.label(position)}: {scene.plan.interval(position)}, component {scene.tree.component_of[position]}, "
+        f"depth {scene.tree.depths[position]}, {'a root' if parent == position else f'parent {parent}'}"
+    )
+    outline = {"stroke": INK, "stroke_width": 1.5} if marked else {}
+    drawing.element(
+        "rect",
+        title=told,
+        x=min(left, panel.axis.right - wide),
+        y=panel.middle(position) - high / 2,
+        width=wide,
+        height=high,
+        rx=2 if panel.row > 16 else 1,
+        fill=_colour(scene, position),
+        fill_opacity=1 if marked or scene.ends is None else 0.35,
+        **outline,
+    )
+    size = _font(panel.row)
+    drawing.text(
+        panel.axis.left - 10,
+        panel.middle(position) + size / 3,
+        _label(scene, position),
+        size,
+        INK if marked or scene.ends is None else GREY,
+        panel.axis.left - 10 - MARGIN,
+        "end",
+        bold=marked,
+    )
+
+
+def _handovers(drawing: Drawing, scene: Scene, panel: Panel) -> None:
+    """A handover stands in the middle of the minutes that its two windows share. One that leads to another panel goes to the
+    edge of this one."""
+    chain = scene.chain or ()
+    for later, earlier in zip(chain, chain[1:]):
+        shared = shared_minutes(scene.plan.windows[later], scene.plan.windows[earlier])
+        minute = sum(shared) / 2
+        if not panel.axis.start <= minute <= panel.axis.end:
+            continue
+        here = [at for at in (later, earlier) if at in panel.rows]
+        ends = [panel.middle(at) for at in here]
+        if len(here) == 1:
+            ends.append(panel.top - 4 if here[0] > min(later, earlier) else panel.bottom + 4)
+        x = panel.axis.place(minute)
+        if here:
+            drawing.line(x, ends[0], x, ends[1], INK, 2)
+        for at in here:
+            ring = {"r": 3.4 if panel.row > 16 else 2.6, "fill": "#ffffff", "stroke": INK, "stroke_width": 1.5}
+            drawing.element("circle", cx=x, cy=panel.middle(at), **ring)

@@ -1,0 +1,158 @@
+"""Refusals in words. QUESTIONS is the one table of them; docs/FORMAT.md has the same."""
+from typing import Dict, NamedTuple, Optional, Sequence
+
+from . import figures
+from .wording import counted, ordinal
+
+
+class Question(NamedTuple):
+    asks: str  # as the formats' document has it
+    says: str  # what is wrong, where the call's inputs are known
+
+
+QUESTIONS: Dict[int, Question] = {
+    1: Question(
+        "Has the file at least {HEADER_LENGTH} bytes?",
+        "{the_plan} has {bytes}; a plan has at least {HEADER_LENGTH}",
+    ),
+    2: Question(
+        "Is n at most {WINDOWS_LIMIT:,}?",
+        "{the_plan} is said to have {windows}; a plan has at most {WINDOWS_LIMIT:,}",
+    ),
+    3: Question(
+        "Has the file exactly {HEADER_LENGTH} + {WINDOW_LENGTH} n bytes?",
+        "{the_plan} has {bytes}; with {windows} it has exactly {wanted:,}",
+    ),
+    4: Question(
+        "Is the length at least {LENGTH_LEAST}?",
+        "window {position} of {the_plan} has length {length:,}; a length is at least {LENGTH_LEAST}",
+    ),
+    5: Question(
+        "Is offset + length at most {END_LIMIT:,}?",
+        "window {position} of {the_plan} ends at {end:,}; an end is at most {END_LIMIT:,}",
+    ),
+    6: Question(
+        "Is the offset at least that of the window before?",
+        "window {position} of {the_plan} begins at {offset:,}, earlier than the window before it, at {before:,}",
+    ),
+    7: Question("Is the position below the number of windows or tags?", "there is no window {at}: {holder}"),
+    8: Question("Does each table hold what is to be written?", "a table has too little room for what is to be written"),
+    9: Question("Has the tag {TAG_LENGTH} bytes, the tag file a multiple of {TAG_LENGTH}?", "{the_tag} has {bytes}; {wanted}"),
+    10: Question(
+        "Is each field after the plan number at most {FIELD_LIMIT:,}?",
+        "{the_tag} has {fields}; each is at most {FIELD_LIMIT:,}",
+    ),
+    11: Question("Have both tags one plan number?", "the first tag is of plan {plan} and the second of plan {other_plan}"),
+    12: Question(
+        "Do two tags of equal component and equal rank agree in all fields?",
+        "the two tags have component {component} and rank {rank} alike and differ in other fields, so they are of two plans",
+    ),
+}
+
+
+class Asked(NamedTuple):
+    """The inputs of a call, from which its refusal is worded."""
+
+    plans: Sequence[bytes] = ()
+    tags: Sequence[bytes] = ()
+    tag_file: Optional[bytes] = None
+    positions: Sequence[int] = ()
+    before: int = 0  # windows that stand before the plan's and were left out
+
+
+class Refused(Exception):
+    """A "no" to one of the questions: its number, the input at fault (0 or 1), the position of a window or 0, and words."""
+
+    def __init__(self, number: int, input: int = 0, position: int = 0, words: str = ""):
+        self.number, self.input, self.position = number, input, position
+        self.words = words or f'"no" to: {question(number)}'
+        super().__init__(number, input, position, self.words)
+
+    def __str__(self) -> str:
+        return f"refused by question {self.number}: {self.words}"
+
+
+def question(number: int) -> str:
+    """A question as the formats' document has it."""
+    if number not in QUESTIONS:
+        return "a question that is newer than the package"
+    return QUESTIONS[number].asks.format_map(vars(figures))
+
+
+def refusal(number: int, input: int, position: int, asked: Asked) -> Refused:
+    """A refusal with words that say what is wrong in the inputs of the call, where they can tell."""
+    try:
+        words = QUESTIONS[number].says.format_map(_facts(input, position, asked))
+    except KeyError:
+        words = ""
+    return Refused(number, input, position, words)
+
+
+def _facts(input: int, position: int, asked: Asked) -> dict:
+    """All that can be told of the inputs of a call; a question's words take what they need."""
+    facts = dict(vars(figures), position=position)
+    if asked.plans:
+        facts.update(_plan_facts(asked, input, position))
+    if asked.tag_file is not None:
+        facts.update(_tag_file_facts(asked.tag_file))
+    if input < len(asked.tags):
+        facts.update(_tag_facts(asked.tags, input))
+    if input < len(asked.positions):
+        facts["at"] = f"{asked.positions[input]:,}"
+    return facts
+
+
+def _bytes(data: bytes, limit: int) -> str:
+    """A length; of what is too long only that, since no more of it need have been read."""
+    return f"more than {counted(limit, 'byte')}" if len(data) > limit else counted(len(data), "byte")
+
+
+def _which(thing: str, inputs: Sequence[bytes], input: int) -> str:
+    return f"the {thing}" if len(inputs) == 1 else f"the {ordinal(input)} {thing}"
+
+
+def _holder(holder: str, count: int, thing: str) -> str:
+    positions = f", 0 to {count - 1:,}" if count > 1 else ", window 0" if count else ""
+    return f"{holder} has {counted(count, thing)}{positions}"
+
+
+def _plan_facts(asked: Asked, input: int, position: int) -> dict:
+    input = min(input, len(asked.plans) - 1)  # where the second of two positions is at fault there is one plan
+    file = asked.plans[input]
+    facts = {"the_plan": _which("plan", asked.plans, input), "bytes": _bytes(file, figures.PLAN_LIMIT)}
+    if len(file) >= figures.HEADER_LENGTH:
+        windows = figures.HEADER.unpack_from(file)[1]
+        facts["windows"], facts["holder"] = counted(windows, "window"), _holder("the plan", windows, "window")
+        facts["wanted"] = figures.HEADER_LENGTH + figures.WINDOW_LENGTH * windows
+    start = figures.HEADER_LENGTH + figures.WINDOW_LENGTH * (position - asked.before)
+    if start + figures.WINDOW_LENGTH <= len(file):
+        offset, length = figures.WINDOW.unpack_from(file, start)
+        facts.update(offset=offset, length=length, end=offset + length)
+        if position > asked.before:
+            facts["before"] = figures.WINDOW.unpack_from(file, start - figures.WINDOW_LENGTH)[0]
+    return facts
+
+
+def _tag_file_facts(tags: bytes) -> dict:
+    return {
+        "the_tag": "the tag file",
+        "bytes": counted(len(tags), "byte"),
+        "wanted": f"a tag file has a multiple of {figures.TAG_LENGTH}",
+        "holder": _holder("the tag file", len(tags) // figures.TAG_LENGTH, "tag"),
+    }
+
+
+def _tag_facts(tags: Sequence[bytes], input: int) -> dict:
+    facts = {
+        "the_tag": _which("tag", tags, input),
+        "bytes": _bytes(tags[input], figures.TAG_LENGTH),
+        "wanted": f"a tag has {figures.TAG_LENGTH}",
+    }
+    read = [figures.TAG.unpack(tag) if len(tag) == figures.TAG_LENGTH else None for tag in tags]
+    if read[input] is not None:
+        fields = dict(zip(figures.TAG_FIELDS, read[input]))
+        above = [f"{name} {field:,}" for name, field in fields.items() if field > figures.FIELD_LIMIT and name != "plan number"]
+        facts.update(fields=" and ".join(above), component=fields["component"], rank=fields["rank"])
+    if len(read) == 2 and None not in read:
+        facts["plan"], facts["other_plan"] = (tag[0] for tag in read)
+    return facts

@@ -1,0 +1,47 @@
+"""What a subcommand answers, and its forms: text, CSV and JSON."""
+import csv
+import io
+import json
+from typing import NamedTuple, Sequence
+
+from .failures import ANSWERED
+
+
+class Reply(NamedTuple):
+    """An answer in words, as a table and as data. What has one form alone has it as bytes."""
+
+    text: str = ""
+    header: Sequence[str] = ()
+    rows: Sequence[Sequence] = ()
+    data: object = None
+    content: bytes = b""
+    status: int = ANSWERED  # OTHERWISE for "no chain" and "different", REFUSED where a part was refused
+    faults: Sequence[str] = ()  # the words of what was refused
+
+    def encoded(self, form: str) -> bytes:
+        if self.content:
+            return self.content
+        return {"text": self._lines, "csv": self._csv, "json": self._json}[form]().encode("utf-8", "backslashreplace")
+
+    def _lines(self) -> str:
+        return self.text if self.text.endswith("\n") or not self.text else self.text + "\n"
+
+    def _csv(self) -> str:
+        out = io.StringIO()
+        writer = csv.writer(out, lineterminator="\n")
+        writer.writerow(self.header)
+        writer.writerows(self.rows)
+        return out.getvalue()
+
+    def _json(self) -> str:
+        return json.dumps(self.data, ensure_ascii=False, indent=2) + "\n"
+
+
+def aligned(rows: Sequence[Sequence[str]], right: Sequence[int] = ()) -> str:
+    """Lines of cells that stand below one another; the columns named in `right` are set to the right."""
+    widths = [max(map(len, column)) for column in zip(*rows)]
+    lines = (
+        "  ".join(cell.rjust(width) if at in right else cell.ljust(width) for at, (cell, width) in enumerate(zip(row, widths)))
+        for row in rows
+    )
+    return "".join(line.rstrip() + "\n" for line in lines)

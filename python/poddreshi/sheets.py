@@ -1,0 +1,147 @@
+"""Friday's sheet: for each rig, the chain from its present window to the window where it is wanted."""
+from typing import List, NamedTuple, Optional, Sequence, Tuple, Union
+
+from . import calls
+from .failures import ANSWERED, OTHERWISE, REFUSED, Mistake
+from .given import Given, shared_minutes
+from .refusals import Refused
+from .replies import Reply, aligned
+from .texts import Fault, Faulty, Row, clean, csv_rows, lines_of, words_of
+from .wording import counted
+
+_COLUMNS = ("rig", "present", "wanted")
+_LINE = "a line has a rig's name, its present window and the window where it is wanted"
+HEADER = (
+    *("line", "rig", "present", "wanted", "answer", "handovers"),
+    *("step", "window", "name", "begin", "end", "handover_from", "handover_to"),
+)
+
+
+class Trip(NamedTuple):
+    """A rig with its two windows, and its chain in the order in which it travels."""
+
+    line: int
+    rig: str
+    present: int
+    wanted: int
+    chain: Optional[Tuple[int, ...]]
+
+    @property
+    def answer(self) -> str:
+        return str(calls.Chain(self.chain).handovers)
+
+
+class Sheet(NamedTuple):
+    plan: Given
+    trips: Sequence[Trip]
+    faults: Sequence[Fault]
+
+    @property
+    def in_order(self) -> List[Union[Trip, Fault]]:
+        return sorted([*self.trips, *self.faults], key=lambda each: each.line)
+
+
+def make(plan: Given, data: bytes) -> Sheet:
+    """The sheet for lines of a rig's name and two windows. A line that is wrong is kept as a fault, and spoils no other."""
+    rows, faults = _rows(data)
+    if not rows and not faults:
+        raise Faulty([Fault(1, f"there is no rig; {_LINE}")])
+    trips = []
+    for row in rows:
+        try:
+            trips.append(_trip(plan, row))
+        except (ValueError, Mistake, Refused) as error:
+            faults.append(Fault(row.line, str(error)))
+    return Sheet(plan, trips, faults)
+
+
+def _rows(data: bytes) -> Tuple[List[Row], List[Fault]]:
+    lines, faults = lines_of(data)
+    table = csv_rows(lines, _COLUMNS, 3)
+    if table is not None:
+        return table[0], faults + table[1]
+    found = [(number, words_of(line)) for number, line in enumerate(lines, 1)]
+    # The last two words are windows, and a rig's name may have several.
+    return [Row(number, [" ".join(words[:-2]), *words[-2:]]) for number, words in found if words], faults
+
+
+def _trip(plan: Given, row: Row) -> Trip:
+    if len(row.cells) != 3 or not all(row.cells):
+        raise ValueError(_LINE)
+    name, (present, wanted) = clean(row.cells[0]), (plan.names.position(word) for word in row.cells[1:])
+    chain = calls.chain(plan.file, present, wanted).positions
+    if chain and chain[0] != present:
+        chain = chain[::-1]
+    return Trip(row.line, name, present, wanted, chain)
+
+
+def steps(plan: Given, trip: Trip) -> List[list]:
+    """A row for each window of the chain: position, name, begin, end, and when it can hand over to the next."""
+    rows = []
+    for at, position in enumerate(trip.chain or ()):
+        shared = ["", ""]
+        if at + 1 < len(trip.chain):
+            minutes = shared_minutes(plan.windows[position], plan.windows[trip.chain[at + 1]])
+            shared = [plan.clock.show(minute) for minute in minutes]
+        rows.append([*plan.shown(position), *shared])
+    return rows
+
+
+def heading(plan: Given, trip: Trip) -> str:
+    return f"{trip.rig}: from {plan.names.label(trip.present)} to {plan.names.label(trip.wanted)}: {trip.answer}"
+
+
+def summary(sheet: Sheet) -> str:
+    joined = [trip for trip in sheet.trips if trip.chain]
+    words = [f"{counted(len(sheet.trips) + len(sheet.faults), 'rig')}: {len(joined)} with a chain"]
+    words.append(f"{len(sheet.trips) - len(joined)} with no chain")
+    if sheet.faults:
+        words.append(f"{counted(len(sheet.faults), 'line')} not read")
+    if joined:
+        longest = max(joined, key=lambda trip: len(trip.chain))
+        total = sum(len(trip.chain) - 1 for trip in joined)
+        words.append(f"{total} handovers in all, at most {len(longest.chain) - 1} ({longest.rig})")
+    return ", ".join(words)
+
+
+def _text(sheet: Sheet) -> str:
+    parts = []
+    for each in sheet.in_order:
+        if isinstance(each, Fault):
+            parts.append(f"{each}\n")
+            continue
+        rows = [
+            ["", position, name, f"{begin} to {end}", f"hand over {start} to {stop}" if start else ""]
+            for position, name, begin, end, start, stop in steps(sheet.plan, each)
+        ]
+        parts.append(f"{heading(sheet.plan, each)}\n" + (aligned(rows, right=(1,)) if rows else ""))
+    return "\n".join([*parts, summary(sheet) + "\n"])
+
+
+def _csv(sheet: Sheet) -> List[list]:
+    rows = []
+    for each in sheet.in_order:
+        if isinstance(each, Fault):
+            rows.append([each.line, "", "", "", f"not read: {each.words}"] + [""] * 8)
+        elif each.chain is None:
+            rows.append([*each[:4], "no chain"] + [""] * 8)
+        else:
+            head = [*each[:4], "chain", len(each.chain) - 1]
+            rows += [[*head, step, *row] for step, row in enumerate(steps(sheet.plan, each))]
+    return rows
+
+
+def _data(sheet: Sheet) -> dict:
+    rigs = []
+    for trip in sheet.trips:
+        chain = None if trip.chain is None else [sheet.plan.data(position) for position in trip.chain]
+        count = None if trip.chain is None else len(trip.chain) - 1
+        rigs.append({**trip._asdict(), "handovers": count, "chain": chain})
+    faults = [fault._asdict() for fault in sheet.faults]
+    return {"plan": sheet.plan.number, "rigs": rigs, "faults": faults, "summary": summary(sheet)}
+
+
+def reply(sheet: Sheet, source: str) -> Reply:
+    status = OTHERWISE if any(trip.chain is None for trip in sheet.trips) else ANSWERED
+    faults = [f"{source}, {fault}" for fault in sheet.faults]
+    return Reply(_text(sheet), HEADER, _csv(sheet), _data(sheet), status=REFUSED if faults else status, faults=faults)

@@ -1,0 +1,212 @@
+"""A planner's text: a line for each window, or CSV with a header. Every fault of a text is found, by line.
+
+    # offset length [name]; what follows a # is left out
+    1440 480 North pier                 minutes
+    2026-02-06 08:00 48h "Bay #3"       dates, with an origin; a name in quotes may hold a #
+"""
+import csv
+import re
+import unicodedata
+from typing import Iterator, List, NamedTuple, Optional, Tuple
+
+from . import calls, times
+from .figures import END_LIMIT, LENGTH_LEAST, NUMBER_LIMIT, WINDOWS_LIMIT
+from .plans import Window, pack
+from .refusals import Asked, Refused, refusal
+from .times import Clock
+
+_QUOTED = r'(?:(?<=\s)|^)"(?:[^"]|"")*"(?=\s|$)'
+_QUOTED_OR_COMMENT = re.compile(_QUOTED + r"|(?:(?<=\s)|^)(#)")
+_WORD = re.compile(_QUOTED + r"|\S+")
+_LINE = re.compile(
+    r"(?P<offset>\d{4}-\d\d-\d\d(?:(?:\s+|T)\d\d?:\d\d)?|\S+)(?:\s+(?P<length>\S+)(?:\s+(?P<name>.+))?)?", re.ASCII
+)
+
+
+class Fault(NamedTuple):
+    line: int
+    words: str
+
+    def __str__(self) -> str:
+        return f"line {self.line}: {self.words}"
+
+
+class Faulty(Exception):
+    """A text that is not accepted, with all that is wrong in it, in order of lines."""
+
+    def __init__(self, faults: List[Fault]):
+        super().__init__("; ".join(map(str, faults)))
+        self.faults = sorted(faults, key=lambda fault: fault.line)
+        self.source = "the text"
+
+
+class Entry(NamedTuple):
+    """A window of a text, with its line and its name, which may be empty."""
+
+    line: int
+    window: Window
+    name: str
+
+
+class Row(NamedTuple):
+    """A line of a text in its cells."""
+
+    line: int
+    cells: List[str]
+
+
+def lines_of(data: bytes) -> Tuple[List[str], List[Fault]]:
+    """The lines of a text in UTF-8; a line that is not is a fault, and is taken as empty."""
+    lines, faults = [], []
+    for number, line in enumerate(data.replace(b"\r\n", b"\n").replace(b"\r", b"\n").split(b"\n"), 1):
+        try:
+            lines.append(line.decode("utf-8-sig" if number == 1 else "utf-8"))
+        except UnicodeDecodeError:
+            lines.append("")
+            faults.append(Fault(number, "is no text in UTF-8"))
+    return lines, faults
+
+
+def uncommented(line: str) -> str:
+    """The line without its comment: from a # that begins a word, outside quotes."""
+    line = line.replace("\xa0", " ")
+    comment = next((found for found in _QUOTED_OR_COMMENT.finditer(line) if found[1]), None)
+    return (line[: comment.start()] if comment else line).strip()
+
+
+def words_of(line: str) -> List[str]:
+    """The words of a line, of which one in quotes may hold spaces."""
+    return [unquoted(word) for word in _WORD.findall(uncommented(line))]
+
+
+def unquoted(name: str) -> str:
+    return name[1:-1].replace('""', '"') if len(name) > 1 and name[0] == name[-1] == '"' else name
+
+
+def quoted(name: str) -> str:
+    """A name as it is written at the end of a line, so that it is read back as it was."""
+    return '"' + name.replace('"', '""') + '"' if re.search(r'["#]|^\s|\s$', name) else name
+
+
+def clean(name: str) -> str:
+    """A name that can be shown anywhere; a control character cannot."""
+    name = name.replace("\t", " ").strip()
+    if any(unicodedata.category(character) == "Cc" for character in name):
+        raise ValueError("a name has no control characters")
+    return name
+
+
+def _header(line: List[str], delimiter: str) -> List[str]:
+    """The first word of each cell: "Offset (minutes)" is an offset too."""
+    try:
+        return [(cell.lower().split() or [""])[0] for cell in next(csv.reader(line, delimiter=delimiter), [])]
+    except csv.Error:  # a zero byte, or a cell of great length
+        return []
+
+
+def csv_rows(lines: List[str], columns: Tuple[str, ...], wanted: int) -> Optional[Tuple[List[Row], List[Fault]]]:
+    """The rows of CSV in the order of `columns`, or None where the first line is no header with the first `wanted` of them."""
+    start = next((at for at, line in enumerate(lines) if uncommented(line)), len(lines))
+    for delimiter in ",;\t":
+        header = _header(lines[start : start + 1], delimiter)
+        if all(column in header for column in columns[:wanted]):
+            break
+    else:
+        return None
+    places = [header.index(column) if column in header else None for column in columns]
+    kept = ["\n" if line.startswith("#") else line + "\n" for line in lines[start + 1 :]]
+    rows, faults, reader = [], [], csv.reader(kept, delimiter=delimiter, strict=True)
+    while True:
+        try:
+            cells = next(reader)
+        except StopIteration:
+            return rows, faults
+        except csv.Error as error:
+            faults.append(Fault(start + 1 + reader.line_num, f"is no line of CSV: {error}"))
+            continue
+        if any(cell.strip() for cell in cells):
+            taken = [cells[at].strip() if at is not None and at < len(cells) else "" for at in places]
+            rows.append(Row(start + 1 + reader.line_num, taken))
+
+
+def _plain_rows(lines: List[str]) -> Iterator[Row]:
+    for number, line in enumerate(lines, 1):
+        line = uncommented(line)
+        if line:
+            parts = _LINE.fullmatch(line)
+            yield Row(number, [parts["offset"], parts["length"] or "", unquoted(parts["name"] or "")])
+
+
+def _entry(row: Row, clock: Clock) -> Entry:
+    offset, length, name = row.cells
+    if not offset or not length:
+        raise ValueError("a line has an offset and a length, and may have a name")
+    window = Window(clock.offset(offset), times.length(length))
+    for number, what in zip(window, ("an offset", "a length")):
+        if number > NUMBER_LIMIT:
+            raise ValueError(f"{what} of {number:,} does not fit a plan file, which holds up to {NUMBER_LIMIT:,}")
+    return Entry(row.line, window, clean(name))
+
+
+def parse(data: bytes, clock: Clock) -> Tuple[List[Entry], List[Fault]]:
+    """The windows of a text, in its order, and the lines that are none."""
+    lines, faults = lines_of(data)
+    table = csv_rows(lines, ("offset", "length", "name"), 2)
+    rows = list(_plain_rows(lines)) if table is None else table[0]
+    faults += [] if table is None else table[1]
+    entries = []
+    for row in rows:
+        try:
+            entries.append(_entry(row, clock))
+        except ValueError as error:
+            faults.append(Fault(row.line, str(error)))
+    return entries, faults
+
+
+def _refusals(entries: List[Entry]) -> Iterator[Fault]:
+    """What the library refuses, asked of each window alone and then of its order, so that one fault hides no other."""
+    before: List[Window] = []
+    for position, entry in enumerate(entries):
+        pair = before + [entry.window]
+        for windows, asked in (([entry.window], [entry.window]), (pair, [_faultless(window) for window in pair])):
+            try:
+                calls.validate(pack(0, asked))
+            except Refused as no:
+                known = Asked(plans=[pack(0, windows)], before=position - no.position)
+                yield Fault(entry.line, str(refusal(no.number, 0, position, known)))
+        before = [entry.window]
+
+
+def _faultless(window: Window) -> Window:
+    """A window of which nothing can be refused but its place among others."""
+    return Window(min(window.offset, END_LIMIT - LENGTH_LEAST), LENGTH_LEAST)
+
+
+def make(number: int, data: bytes, clock: Clock, sort: bool = False, empty: bool = False) -> Tuple[bytes, List[Entry]]:
+    """The plan file of a text, and its entries by position. All that is wrong is raised at once, as Faulty."""
+    entries, faults = parse(data, clock)
+    if not entries and not faults and not empty:
+        raise Faulty([Fault(1, "the text has no window; --empty makes a plan of none")])
+    if sort:
+        entries.sort(key=lambda entry: entry.window.offset)
+    faults += _refusals(entries)
+    file = pack(number, [entry.window for entry in entries])
+    try:
+        calls.validate(file)
+    except Refused as no:
+        if no.number not in (4, 5, 6):  # those have been told with their lines
+            faults.append(Fault(entries[min(WINDOWS_LIMIT, len(entries) - 1)].line, str(no)))
+    if faults:
+        raise Faulty(faults)
+    return file, entries
+
+
+def write(windows: List[Window], names: List[str], clock: Clock) -> str:
+    """The lines of a text, aligned."""
+    cells = [(clock.show(each.offset), clock.show_length(each.length)) for each in windows]
+    widths = [max((len(row[column]) for row in cells), default=0) for column in range(2)]
+    lines = (
+        f"{offset:>{widths[0]}} {length:>{widths[1]}} {quoted(name)}".rstrip()
+        for (offset, length), name in zip(cells, names)
+    )
+    return "".join(line + "\n" for line in lines)

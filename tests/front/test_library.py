@@ -1,0 +1,164 @@
+"""The package over the C interface."""
+import ctypes
+import doctest
+import os
+import re
+import shutil
+import subprocess
+import sys
+import tempfile
+import unittest
+from ctypes.util import find_library
+
+from support import PLAN_12, PYTHON, ROOT, TAGS_12, plan
+
+import poddreshi
+from poddreshi import library
+
+
+def refusal(call, *arguments):
+    try:
+        call(*arguments)
+    except poddreshi.Refused as no:
+        return no.number, no.input, no.position
+    return None
+
+
+class Answers(unittest.TestCase):
+    def test_plan_12(self):
+        tree = poddreshi.build(PLAN_12)
+        self.assertEqual(tree[:3], (12, 7, 2))
+        self.assertEqual(tree.tags, TAGS_12)
+        self.assertEqual(poddreshi.tags(PLAN_12), (12, 7, 2, TAGS_12))
+        rows = list(zip(tree.parents, tree.component_of, tree.depths, tree.ranks, tree.last_ranks))
+        self.assertEqual(rows[4:], [(2, 0, 2, 2, 1), (4, 0, 3, 1, 1), (6, 1, 0, 0, 0)])
+        self.assertEqual(poddreshi.validate(PLAN_12), (12, 7))
+        self.assertEqual(poddreshi.chain(PLAN_12, 3, 5).positions, (5, 4, 2, 3))
+        self.assertEqual(poddreshi.chain(PLAN_12, 5, 6).positions, None)
+        self.assertEqual(poddreshi.neighbours(PLAN_12, 2).positions, (0, 1, 3, 4))
+        self.assertEqual(poddreshi.reach(PLAN_12, 0).bound, 4)
+        self.assertTrue(poddreshi.same(PLAN_12, PLAN_12).same)
+        self.assertFalse(poddreshi.same(PLAN_12, plan()).same)
+
+    def test_tags(self):
+        tags = [poddreshi.lookup(TAGS_12, at) for at in range(7)]
+        self.assertEqual(b"".join(tags), TAGS_12)
+        self.assertEqual([poddreshi.pair(tags[5], tag).count for tag in tags], [3, 3, 2, 3, 1, 0, None])
+        self.assertEqual([poddreshi.pair_at(TAGS_12, 5, at).count for at in range(7)], [3, 3, 2, 3, 1, 0, None])
+        self.assertEqual(poddreshi.read(tags[4]), (12, 0, 2, 2, 1))
+        self.assertEqual(poddreshi.write(12, 0, 2, 2, 1), tags[4])
+
+    def test_text_forms(self):
+        told = [
+            (poddreshi.validate(PLAN_12), "plan 12, 7 windows"),
+            (poddreshi.tags(PLAN_12), "plan 12, 7 windows, 2 components"),
+            (poddreshi.build(PLAN_12), "plan 12, 7 windows, 2 components"),
+            (poddreshi.chain(PLAN_12, 3, 5), "5 4 2 3"),
+            (poddreshi.chain(PLAN_12, 5, 6), "no chain"),
+            (poddreshi.neighbours(PLAN_12, 2), "0 1 3 4"),
+            (poddreshi.neighbours(PLAN_12, 6), "none"),
+            (poddreshi.reach(PLAN_12, 6), "at most 1 handover between any two windows of its component"),
+            (poddreshi.pair_at(TAGS_12, 6, 6), "0 handovers"),
+            (poddreshi.same(PLAN_12, PLAN_12), "same"),
+            (poddreshi.read(TAGS_12[40:50]), "plan 12, component 0, depth 2, rank 2, rank of the last 1"),
+        ]
+        for answer, words in told:
+            self.assertEqual(str(answer), words)
+
+    def test_bytes_of_every_kind(self):
+        writable, backwards = (lambda data: memoryview(bytearray(data))), (lambda data: memoryview(data[::-1])[::-1])
+        for kind in (bytes, bytearray, memoryview, writable, backwards):
+            self.assertEqual(poddreshi.chain(kind(PLAN_12), 3, 5).positions, (5, 4, 2, 3))
+            self.assertEqual(poddreshi.pair(kind(TAGS_12[40:50]), kind(TAGS_12[50:60])).count, 1)
+            self.assertEqual(poddreshi.lookup(kind(TAGS_12), 4), TAGS_12[40:50])
+            self.assertEqual(refusal(poddreshi.validate, kind(b"")), (1, 0, 0))
+        lent = bytearray(PLAN_12)
+        poddreshi.validate(lent)
+        lent.append(0)  # it is not held after the call
+
+    def test_refusals(self):
+        asked = {
+            (1, 1, 0): (poddreshi.same, PLAN_12, b""),
+            (2, 0, 0): (poddreshi.validate, b"\x0c\0\x01\x08"),
+            (3, 0, 0): (poddreshi.build, PLAN_12 + b"\0"),
+            (4, 0, 1): (poddreshi.tags, plan((5, 5), (4, 0))),
+            (5, 0, 0): (poddreshi.validate, plan((2**32 - 1, 6))),
+            (6, 0, 1): (poddreshi.validate, plan((5, 5), (4, 5))),
+            (7, 0, 0): (poddreshi.lookup, TAGS_12, 7),
+            (7, 1, 0): (poddreshi.pair_at, TAGS_12, 0, 7),
+            (9, 0, 0): (poddreshi.pair_at, TAGS_12[1:], 0, 7),
+            (9, 1, 0): (poddreshi.pair, TAGS_12[:10], TAGS_12[:9]),
+            (10, 0, 0): (poddreshi.read, bytes.fromhex("0c000000000803000200")),
+            (11, 1, 0): (poddreshi.pair, TAGS_12[:10], b"\x0d" + TAGS_12[1:10]),
+            (12, 1, 0): (poddreshi.pair, TAGS_12[:10], TAGS_12[:9] + b"\x01"),
+        }
+        self.assertEqual([refusal(*call) for call in asked.values()], list(asked))
+        self.assertEqual(refusal(poddreshi.write, 12, 0, 2048, 0, 0), (10, 0, 0))
+
+    def test_positions_out_of_range(self):
+        for at in (7, 2**32, 2**64 - 1, 2**64, 10**30):
+            self.assertEqual(refusal(poddreshi.reach, PLAN_12, at), (7, 0, 0))
+            self.assertEqual(refusal(poddreshi.chain, PLAN_12, 0, at), (7, 1, 0))
+        for call in (poddreshi.reach, poddreshi.neighbours):
+            with self.assertRaises(ValueError):
+                call(PLAN_12, -1)
+        with self.assertRaises(ValueError):
+            poddreshi.write(65536, 0, 0, 0, 0)
+
+
+class Interface(unittest.TestCase):
+    HEADER = (ROOT / "include" / "poddreshi.h").read_text(encoding="utf-8")
+
+    def test_every_call_of_the_header(self):
+        found = dict(re.findall(r"^uint64_t poddreshi_(\w+)\(([^;]*)\);", self.HEADER, re.M | re.S))
+        self.assertEqual(set(library.CALLS), set(found))
+        sizes = {"uint8_t *": ctypes.c_void_p, "uint16_t *": ctypes.c_void_p, "size_t *": ctypes.c_void_p}
+        for name, arguments in found.items():
+            for declared, here in zip(re.split(r",\s*", arguments), library.CALLS[name]):
+                kind = re.sub(r"\w+$", "", declared.replace("const ", "")).strip()
+                wanted = sizes.get(kind, {"size_t": ctypes.c_size_t, "uint16_t": ctypes.c_uint16}.get(kind))
+                self.assertEqual(ctypes.sizeof(here), ctypes.sizeof(wanted), (name, declared))
+            self.assertEqual(len(re.split(r",\s*", arguments)), len(library.CALLS[name]), name)
+
+    def test_every_kind_of_the_header(self):
+        found = dict(re.findall(r"PODDRESHI_([A-Z_]+) = (\d+),?$", self.HEADER, re.M))
+        kinds = {kind.name: str(kind.value) for kind in library.Kind}
+        self.assertEqual({name: found[name] for name in kinds}, kinds)
+
+    def test_public_names(self):
+        for name in poddreshi.__all__:
+            self.assertTrue(hasattr(poddreshi, name), name)
+
+    def test_version_in_one_place(self):
+        self.assertIn(f'#define PODDRESHI_VERSION "{poddreshi.__version__}"', self.HEADER)
+        self.assertIn(f"## {poddreshi.__version__}", (ROOT / "CHANGELOG.md").read_text(encoding="utf-8"))
+
+    def without_library(self, package, **environment) -> str:
+        """What the package says where its library is not there."""
+        code = "import poddreshi\ntry:\n poddreshi.validate(b'')\nexcept poddreshi.LibraryMissing as e: print(e)"
+        environment = {"PYTHONPATH": str(package), **PYTHON, **environment}
+        return subprocess.run([sys.executable, "-c", code], env=environment, stdout=subprocess.PIPE).stdout.decode()
+
+    def test_hints_where_the_library_is_missing(self):
+        told = self.without_library(ROOT / "python", PODDRESHI_LIBRARY="/nowhere/libpoddreshi.so")
+        self.assertIn("/nowhere/libpoddreshi.so cannot be loaded; it is the one that PODDRESHI_LIBRARY names", told)
+        told = self.without_library(ROOT / "python", PODDRESHI_LIBRARY=find_library("m"))
+        self.assertIn("is older than this package", told)
+        with tempfile.TemporaryDirectory() as folder:
+            shutil.copytree(ROOT / "python", folder + "/python", ignore=shutil.ignore_patterns("__pycache__"))
+            self.assertIn("install it, or name it in PODDRESHI_LIBRARY", self.without_library(folder + "/python"))
+            front = [sys.executable, "-m", "poddreshi", "list", str(ROOT / "examples" / "plan-12.plan")]
+            done = subprocess.run(front, env={"PYTHONPATH": folder + "/python", **PYTHON}, stderr=subprocess.PIPE)
+            self.assertEqual((done.returncode, b"the listing program stands beside the library" in done.stderr), (3, True))
+            shutil.copy(ROOT / "crates.txt", folder)
+            self.assertIn("run ./poddreshi build", self.without_library(folder + "/python"))
+
+    def test_the_example_of_the_package(self):
+        before = os.getcwd()
+        os.chdir(ROOT)
+        self.addCleanup(os.chdir, before)
+        self.assertEqual(doctest.testmod(poddreshi), (0, 5))
+
+
+if __name__ == "__main__":
+    unittest.main()

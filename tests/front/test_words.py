@@ -1,0 +1,105 @@
+"""Refusals in words: what is wrong, and where."""
+import pickle
+import re
+import string
+import unittest
+
+from support import PLAN_12, ROOT, TAGS_12, Case, plan
+
+import poddreshi
+from poddreshi import figures, refusals
+
+
+def as_in_the_document(template: str) -> str:
+    """The figures filled in, and the names left as they are."""
+    parts = []
+    for literal, name, form, _ in string.Formatter().parse(template):
+        parts.append(literal)
+        if name is not None:
+            figure = getattr(figures, name, None)
+            parts.append(f"{{{name}}}" if figure is None else format(figure, form))
+    return "".join(parts)
+
+
+class Words(Case):
+    def refused(self, words: str, *command, **options):
+        self.says(1, f"refused by question {words}", *command, **options)
+
+    def test_each_question_of_a_plan(self):
+        for file, words in {
+            b"\x0c\0\0": "1: the plan has 3 bytes; a plan has at least 4",
+            b"\x0c\0\x01\x08": "2: the plan is said to have 2,049 windows; a plan has at most 2,048",
+            b"\x0c\0\0\0\0": "3: the plan has 5 bytes; with no windows it has exactly 4",
+            plan((5, 5), (4, 0)): "4: window 1 of the plan has length 0; a length is at least 1",
+            plan((9999999, 2)): "5: window 0 of the plan ends at 10,000,001; an end is at most 10,000,000",
+            plan((2**32 - 1, 2**32 - 1)): "5: window 0 of the plan ends at 8,589,934,590; an end is at most 10,000,000",
+            plan((5, 5), (4, 5)): "6: window 1 of the plan begins at 4, earlier than the window before it, at 5",
+        }.items():
+            self.refused(words, "tags", "-", stdin=file)
+
+    def test_positions(self):
+        name = self.file("12.plan", PLAN_12)
+        self.refused("7: there is no window 7: the plan has 7 windows, 0 to 6", "chain", name, 0, 7)
+        self.refused("7: there is no window 99: the plan has no windows", "reach", "-", 99, stdin=plan())
+        self.refused("7: there is no window 1: the plan has 1 window, window 0", "neighbours", "-", 1, stdin=plan((0, 1)))
+        tags = self.file("12.tags", TAGS_12)
+        self.refused("7: there is no window 1,000: the tag file has 7 tags, 0 to 6", "count", tags, 1, 1000)
+        self.refused(f"7: there is no window {2**64:,}: the tag file has 7 tags, 0 to 6", "tag", tags, 2**64)
+
+    def test_which_of_two(self):
+        name = self.file("12.plan", PLAN_12)
+        self.refused("1: the second plan has no bytes; a plan has at least 4", "same", name, "-")
+        self.refused("1: the first plan has no bytes; a plan has at least 4", "same", "-", name)
+        tag, short = self.file("0.tag", TAGS_12[:10]), self.file("short.tag", TAGS_12[:9])
+        self.refused("9: the second tag has 9 bytes; a tag has 10", "count", tag, short)
+        self.refused("9: the first tag has more than 10 bytes; a tag has 10", "count", "-", tag, stdin=TAGS_12)
+
+    def test_tags(self):
+        tag = self.file("0.tag", TAGS_12[:10])
+        for other, words in {
+            "0c000008010003000200": "10: the second tag has component 2,048; each is at most 2,047",
+            "0c000000000803000a10": "10: the second tag has depth 2,048 and rank of the last 4,106; each is at most 2,047",
+            "0d000000000005000400": "11: the first tag is of plan 12 and the second of plan 13",
+            "0c000000000005000300": "12: the two tags have component 0 and rank 5 alike and differ in other fields, "
+            "so they are of two plans",
+        }.items():
+            self.refused(words, "count", tag, "-", stdin=bytes.fromhex(other))
+        self.refused("9: the tag file has 69 bytes; a tag file has a multiple of 10", "tag", "-", 0, stdin=TAGS_12[1:])
+        # In a tag file the tags at the two positions are meant.
+        mixed = TAGS_12[:10] + b"\x0d" + TAGS_12[11:20]
+        self.refused("11: the first tag is of plan 12 and the second of plan 13", "count", "-", 0, 1, stdin=mixed)
+        self.refused("9: the tag has 3 bytes; a tag has 10", "explain", "-", stdin=b"\x0c\0\0")
+
+    def test_a_plan_that_is_too_long_is_not_read_to_its_end(self):
+        with open("/dev/zero", "rb") as endless:
+            self.refused(
+                "3: the plan has more than 16,388 bytes; with no windows it has exactly 4", "tags", "-", stdin_file=endless
+            )
+
+    def test_no_question_without_words(self):
+        for number in refusals.QUESTIONS:
+            for input in (0, 1):
+                self.assertTrue(str(refusals.Refused(number, input, 3)).startswith(f"refused by question {number}: "))
+                self.assertNotIn("{", str(refusals.Refused(number, input, 3)))
+                self.assertNotIn("{", str(refusals.refusal(number, input, 3, refusals.Asked())))
+
+    def test_a_refusal_can_be_sent_to_another_process(self):
+        with self.assertRaises(refusals.Refused) as caught:
+            poddreshi.reach(PLAN_12, 7)
+        sent = pickle.loads(pickle.dumps(caught.exception))
+        self.assertEqual((str(sent), sent.number, sent.input, sent.position), (str(caught.exception), 7, 0, 0))
+
+    def test_the_formats_document_has_the_same_words(self):
+        text = (ROOT / "docs" / "FORMAT.md").read_text(encoding="utf-8")
+        _, found, section = text.partition("\n## Words for refusals\n")
+        if not found:
+            self.skipTest("docs/FORMAT.md has no words for refusals")
+        row = re.compile(r"^\| (\d+) \| ([^|]+) \|", re.M)
+        asked = {int(number): words for number, words in row.findall(text) if words.endswith("?")}
+        self.assertEqual(asked, {number: refusals.question(number) for number in refusals.QUESTIONS})
+        said = {int(number): words for number, words in row.findall(section.partition("\n## ")[0])}
+        self.assertEqual(said, {number: as_in_the_document(each.says) for number, each in refusals.QUESTIONS.items()})
+
+
+if __name__ == "__main__":
+    unittest.main()
