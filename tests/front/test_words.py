@@ -61,7 +61,7 @@ class Words(Case):
             "0c000000000803000a10": "10: the second tag has depth 2,048 and rank of the last 4,106; each is at most 2,047",
             "0d000000000005000400": "11: the first tag is of plan 12 and the second of plan 13",
             "0c000000000005000300": "12: the two tags have component 0 and rank 5 alike and differ in other fields, "
-            "so they are of two plans",
+            "so they are not both of one plan",
         }.items():
             self.refused(words, "count", tag, "-", stdin=bytes.fromhex(other))
         self.refused("9: the tag file has 69 bytes; a tag file has a multiple of 10", "tag", "-", 0, stdin=TAGS_12[1:])
