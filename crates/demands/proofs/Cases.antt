@@ -13,26 +13,15 @@ use Rattle.interval_graph.specs.Numbers.{Outcome, apart, no-chain, outcome, num
 use Rattle.interval_graph.specs.Walk.{climb, walk, chainOf}
 use Rattle.interval_graph.proofs.Plan12.{definitions}
 use Rattle.interval_graph.proofs.Rule.{outcome-apart, outcome-no-chain}
-use Rattle.wire.proofs.Question.{first-cases}
-use Rattle.plan.specs.declared.questions.Validation.{Validation}
-use Rattle.plan.specs.declared.questions.Validation.the-variants.{Accepted, Refused}
-use Rattle.plan.specs.File.{planNumber, windowCount}
+use Rattle.wire.specs.Question.{allYes}
+use Rattle.plan.specs.File.{windowCount}
 use Rattle.plan.specs.Overlap.{overlaps}
-use Rattle.plan.specs.Validation.{planQuestions, validateAnswerOf, AcceptedPlan}
+use Rattle.plan.specs.Validation.{planQuestions, AcceptedPlan}
 use Rattle.plan.proofs.Plan12.{meaning}
 use Rattle.plan.proofs.Overlap.{interval-order}
+use Rattle.tree.specs.Tables.{componentCount}
 use Rattle.path.specs.Chain.{chainBetween}
-use Rattle.demands.specs.Cases.{spans, fileOf, plan12, touching, overlapping, Case, cases, Says, CaseHolds}
-
-isAccepted : Validation → Bool
-isAccepted (Accepted plan windows) = true
-isAccepted (Refused r) = false
-
-accepted-is : (file : List ℕ) → isAccepted (validateAnswerOf file) ≡ true → AcceptedPlan file
-unfolding validateAnswerOf isAccepted
-accepted-is file t =
-    ⊎-elim (λ e. e) (λ r. let z : _≡_ {A = Bool} false true = sym (ap isAccepted (r .1)) ∙ t in absurd (mathlib.Core.Bool.false≢true z))
-    (first-cases (planQuestions 0 file) Refused (Accepted (planNumber file) (windowCount file)))
+use Rattle.demands.specs.Cases.{plan12, touching, overlapping, Case, cases, Says, CaseHolds, CasesHold}
 
 sameOutcome : Outcome → Outcome → Bool
 sameOutcome (apart j) (apart k) = eqb j k
@@ -69,11 +58,12 @@ found c =
 
 test : Case → Bool
 test c =
-    isAccepted (validateAnswerOf (c .file))
+    allYes (planQuestions (c .file))
+    && (eqb (componentCount (c .file)) (c .components)
     && (ltb (c .first) (windowCount (c .file))
     && (ltb (c .second) (windowCount (c .file))
     && (sameOutcome (found c) (c .expected)
-    && (sameList (c .chain) [] || sameList (chainBetween (c .file) (c .first) (c .second)) (c .chain)))))
+    && (sameList (c .chain) [] || sameList (chainBetween (c .file) (c .first) (c .second)) (c .chain))))))
 
 tests : List Case → Bool
 tests [] = true
@@ -91,14 +81,17 @@ test-holds c t =
     let t4 = sameOutcome (found c) (c .expected) && t5 in
     let t3 = ltb (c .second) (windowCount (c .file)) && t4 in
     let t2 = ltb (c .first) (windowCount (c .file)) && t3 in
-    let h2 = and-right (isAccepted (validateAnswerOf (c .file))) t2 t in
+    let t1 = eqb (componentCount (c .file)) (c .components) && t2 in
+    let ok = and-left (allYes (planQuestions (c .file))) t1 t in
+    let h1 = and-right (allYes (planQuestions (c .file))) t1 t in
+    let h2 = and-right (eqb (componentCount (c .file)) (c .components)) t2 h1 in
     let h3 = and-right (ltb (c .first) (windowCount (c .file))) t3 h2 in
     let h4 = and-right (ltb (c .second) (windowCount (c .file))) t4 h3 in
-    let ok = accepted-is (c .file) (and-left (isAccepted (validateAnswerOf (c .file))) t2 t) in
     let hu = ltb-true _ _ (and-left (ltb (c .first) (windowCount (c .file))) t3 h2) in
     let hv = ltb-true _ _ (and-left (ltb (c .second) (windowCount (c .file))) t4 h3) in
     record {
       accepted = ok;
+      components = eqb-true _ _ (and-left (eqb (componentCount (c .file)) (c .components)) t2 h1);
       first-window = hu;
       second-window = hv;
       count = case-says (c .file) ok (c .first) (c .second) hu hv (c .expected) (outcome-is (found c) (c .expected) (and-left (sameOutcome (found c) (c .expected)) t5 h4));
@@ -109,7 +102,7 @@ test-holds c t =
 
 -- The eleven cases pass.
 cases-pass : tests cases ≡ true
-unfolding definitions meaning climb walk chainOf chainBetween spans fileOf plan12 touching overlapping cases tests test found isAccepted sameOutcome sameList
+unfolding definitions meaning allYes componentCount climb walk chainOf chainBetween plan12 touching overlapping cases tests test found sameOutcome sameList
 cases-pass = refl
 
 tests-hold : (l : List Case) → tests l ≡ true → (c : Case) → List·Memᴰ c l → CaseHolds c
@@ -120,5 +113,5 @@ tests-hold (d ∷ l) t c m =
     (List·Memᴰ·cases-cons m)
 
 -- All cases marked P hold.
-pub cases-hold : (c : Case) → List·Memᴰ c cases → CaseHolds c
+pub cases-hold : CasesHold
 cases-hold = tests-hold cases cases-pass

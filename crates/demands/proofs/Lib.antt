@@ -1,7 +1,13 @@
--- The three demands, proved.
+-- The statements of specs/, proved: Refusals, Tree, EndToEnd (`demand-3`, in Counts), Calls, Cases.
+--   Refusals  demand 1
+--   Tree      demand 2
+--   Counts    demand 3, of the definitions that the calls answer by
+--   Running   what the call that runs everything needs of them
+--   Calls     reach and sameness
+--   Cases     the cases marked P
 pub mod Refusals
 pub mod Tree
 pub mod Counts
-pub mod Sameness
+pub mod Running
+pub mod Calls
 pub mod Cases
-pub mod Together

@@ -20,18 +20,21 @@ use Rattle.tag.specs.declared.pairs.PairAnswer.the-variants as PairAnswer
 use Rattle.tag.specs.Fields.{tagOf, numbers}
 use Rattle.tag.specs.Reading.{readAnswerOf}
 use Rattle.tag.specs.Writing.{writeAnswerOf, afterWrite}
-use Rattle.tag.specs.TagFile.{lookupAnswerOf}
-use Rattle.tag.specs.Pairing.{answerOf, pairAnswerOf}
+use Rattle.tag.specs.TagFile.{tagPart, lookupAnswerOf}
+use Rattle.tag.proofs.TagFile.{part-refused}
+use Rattle.tag.specs.Pairing.{answerOf, pairAnswerOf, pairAtAnswerOf}
 use Rattle.tree.specs.declared.answers.BuildAnswer.the-variants as BuildAnswer
 use Rattle.tree.specs.declared.answers.ReachAnswer.the-variants as ReachAnswer
-use Rattle.tree.specs.Build.{buildAnswerOf, afterBuild, afterTags}
-use Rattle.tree.specs.ReachCall.{reachAnswerOf}
+use Rattle.tree.specs.declared.answers.TableAnswer.the-variants as TableAnswer
+use Rattle.tree.specs.Build.{buildAnswerOf, tagsAnswerOf, afterBuild, afterTags}
+use Rattle.tree.specs.SingleTable.{tableAnswerOf, afterTable}
+use Rattle.tree.specs.Reach.{reachAnswerOf}
 use Rattle.path.specs.declared.answers.ChainAnswer.the-variants as ChainAnswer
 use Rattle.path.specs.declared.answers.NeighboursAnswer.the-variants as NeighboursAnswer
 use Rattle.path.specs.declared.answers.SameAnswer.the-variants as SameAnswer
 use Rattle.path.specs.Chain.{chainBetween, chainFound, chainAnswerOf, afterChain}
 use Rattle.path.specs.Neighbours.{neighboursAnswerOf, afterNeighbours}
-use Rattle.path.specs.Sameness.{samePlans, sameAnswerOf}
+use Rattle.path.specs.Sameness.{sameOverlap, sameAnswerOf}
 use Rattle.demands.specs.Refusals.{FirstNo, here, there, Refuses, Demand1}
 
 -- An answer by `firstNo` is a refusal exactly if that is the first "no", where what is accepted is no refusal and a refusal can be
@@ -67,22 +70,27 @@ same-found true r e = let z : _≡_ {A = ℕ} 0 1 = cc in omega arith
 same-found false r e = let z : _≡_ {A = ℕ} 0 1 = cc in omega arith
 
 pub demand-1 : Demand1
-unfolding validateAnswerOf buildAnswerOf reachAnswerOf chainAnswerOf neighboursAnswerOf sameAnswerOf readAnswerOf writeAnswerOf lookupAnswerOf pairAnswerOf afterBuild afterTags afterChain afterNeighbours afterWrite
+unfolding validateAnswerOf buildAnswerOf tagsAnswerOf tableAnswerOf reachAnswerOf chainAnswerOf neighboursAnswerOf sameAnswerOf readAnswerOf writeAnswerOf lookupAnswerOf pairAnswerOf pairAtAnswerOf afterBuild afterTags afterTable afterChain afterNeighbours afterWrite
 demand-1 =
     record {
       validating = λ file. refuses Validation.Refused _ (λ r s e. cc) (λ r e. let z : _≡_ {A = ℕ} 0 1 = cc in omega arith) _;
       building = λ file p c d r l t. refuses BuildAnswer.Refused _ (λ r s e. cc) (λ r e. let z : _≡_ {A = ℕ} 0 1 = cc in omega arith) _;
+      tagging = λ file room. refuses BuildAnswer.Refused _ (λ r s e. cc) (λ r e. let z : _≡_ {A = ℕ} 0 1 = cc in omega arith) _;
+      tabling = λ file room. refuses TableAnswer.Refused _ (λ r s e. cc) (λ r e. let z : _≡_ {A = ℕ} 0 1 = cc in omega arith) _;
       reaching = λ file at. refuses ReachAnswer.Refused _ (λ r s e. cc) (λ r e. let z : _≡_ {A = ℕ} 0 1 = cc in omega arith) _;
       chaining = λ file first second room. refuses ChainAnswer.Refused _ (λ r s e. cc) (chain-found (chainBetween file first second)) _;
       neighbouring = λ file at room. refuses NeighboursAnswer.Refused _ (λ r s e. cc) (λ r e. let z : _≡_ {A = ℕ} 0 1 = cc in omega arith) _;
-      comparing = λ first second. refuses SameAnswer.Refused _ (λ r s e. cc) (same-found (samePlans first second)) _;
+      comparing = λ first second. refuses SameAnswer.Refused _ (λ r s e. cc) (same-found (sameOverlap first second)) _;
       reading = λ bytes. refuses TagRead.Refused _ (λ r s e. cc) (λ r e. let z : _≡_ {A = ℕ} 0 1 = cc in omega arith) _;
       writing = λ n out. refuses WriteAnswer.Refused _ (λ r s e. cc) (λ r e. let z : _≡_ {A = ℕ} 0 1 = cc in omega arith) _;
       looking-up = λ tags at. refuses LookupAnswer.Refused _ (λ r s e. cc) (λ r e. let z : _≡_ {A = ℕ} 0 1 = cc in omega arith) _;
       pairing = λ first second. refuses PairAnswer.Refused _ (λ r s e. cc) (outcome-answered (outcome (numbers (tagOf first)) (numbers (tagOf second)))) _;
+      pairing-at = λ tags first second. refuses PairAnswer.Refused _ (λ r s e. cc) (outcome-answered (outcome (numbers (tagOf (tagPart tags first))) (numbers (tagOf (tagPart tags second))))) _;
       build-untouched = λ r f before. refl;
       tags-untouched = λ r f before. refl;
+      table-untouched = λ r f before. refl;
       chain-untouched = λ r chain before. refl;
       neighbours-untouched = λ r neighbours before. refl;
       write-untouched = λ r n before. refl;
+      lookup-empty = λ tags at r e. part-refused tags at r e;
     }

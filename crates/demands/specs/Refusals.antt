@@ -6,13 +6,11 @@ use Prim.Native.Nat.{ℕ}
 use mathlib.Core.Bool.{true, false}
 use mathlib.Core.Path.{_≡_}
 use mathlib.Core.Logic.{_↔_}
-use mathlib.Core.List.{List, _∷_, _++_}
-use lib.ListN.{length}
+use mathlib.Core.List.{List, [], _∷_}
 use Rattle.interval_graph.specs.Numbers.{Numbers}
 use Rattle.wire.specs.declared.Refusal.{Refusal}
 use Rattle.wire.specs.Question.{Question}
 use Rattle.plan.specs.declared.questions.Validation.the-variants as Validation
-use Rattle.plan.specs.File.{windowCount}
 use Rattle.plan.specs.Validation.{planQuestions, validateAnswerOf}
 use Rattle.tag.specs.declared.reader.TagRead.the-variants as TagRead
 use Rattle.tag.specs.declared.writer.WriteAnswer.the-variants as WriteAnswer
@@ -20,18 +18,20 @@ use Rattle.tag.specs.declared.tag_file.LookupAnswer.the-variants as LookupAnswe
 use Rattle.tag.specs.declared.pairs.PairAnswer.the-variants as PairAnswer
 use Rattle.tag.specs.Reading.{readQuestions, readAnswerOf}
 use Rattle.tag.specs.Writing.{writeQuestions, writeAnswerOf, afterWrite}
-use Rattle.tag.specs.TagFile.{lookupQuestions, lookupAnswerOf}
-use Rattle.tag.specs.Pairing.{pairQuestions, pairAnswerOf}
+use Rattle.tag.specs.TagFile.{lookupQuestions, lookupAnswerOf, lookupPart}
+use Rattle.tag.specs.Pairing.{pairQuestions, pairAnswerOf, pairAtQuestions, pairAtAnswerOf}
 use Rattle.tree.specs.declared.answers.BuildAnswer.the-variants as BuildAnswer
+use Rattle.tree.specs.declared.answers.TableAnswer.the-variants as TableAnswer
 use Rattle.tree.specs.declared.answers.ReachAnswer.the-variants as ReachAnswer
-use Rattle.tree.specs.Build.{buildQuestions, buildAnswerOf, afterBuild, afterTags}
-use Rattle.tree.specs.ReachCall.{reachQuestions, reachAnswerOf}
+use Rattle.tree.specs.Build.{buildQuestions, buildAnswerOf, tagsQuestions, tagsAnswerOf, afterBuild, afterTags}
+use Rattle.tree.specs.SingleTable.{tableQuestions, tableAnswerOf, afterTable}
+use Rattle.tree.specs.Reach.{reachQuestions, reachAnswerOf}
 use Rattle.path.specs.declared.answers.ChainAnswer.the-variants as ChainAnswer
 use Rattle.path.specs.declared.answers.NeighboursAnswer.the-variants as NeighboursAnswer
 use Rattle.path.specs.declared.answers.SameAnswer.the-variants as SameAnswer
-use Rattle.path.specs.Chain.{chainBetween, chainQuestions, chainAnswerOf, afterChain}
-use Rattle.path.specs.Neighbours.{neighboursOf, neighboursQuestions, neighboursAnswerOf, afterNeighbours}
-use Rattle.path.specs.Sameness.{sameAnswerOf}
+use Rattle.path.specs.Chain.{chainQuestions, chainAnswerOf, afterChain}
+use Rattle.path.specs.Neighbours.{neighboursQuestions, neighboursAnswerOf, afterNeighbours}
+use Rattle.path.specs.Sameness.{sameQuestions, sameAnswerOf}
 
 -- Of questions asked in order, the first that is answered "no" gives this refusal.
 pub data FirstNo : List Question → Refusal → Type 0 where

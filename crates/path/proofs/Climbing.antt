@@ -16,9 +16,27 @@ use Rattle.interval_graph.specs.Order.{IntervalOrder}
 use Rattle.interval_graph.specs.Tree.{last, parent, ancestor}
 use Rattle.interval_graph.specs.Walk.{climb}
 use Rattle.interval_graph.proofs.Last.{last-ge, overlap-last, last-overlap}
-use Rattle.interval_graph.proofs.Parent.{parent-le}
+use Rattle.interval_graph.proofs.Parent.{parent-le, tree}
 use Rattle.interval_graph.proofs.Ancestor.{ancestor-zero, ancestor-suc, ancestor-add}
 use Rattle.interval_graph.proofs.Depth.{fixed-stays}
+use mathlib.Core.List.{List}
+use lib.ListN.{length, getD}
+use Rattle.plan.specs.File.{windowCount}
+use Rattle.plan.specs.Overlap.{overlaps}
+use Rattle.plan.specs.Validation.{greatestCount}
+use Rattle.plan.proofs.Accepted.{accepted-sound}
+use Rattle.path.specs.Steps.{Parented}
+
+-- What the walk is handed: few windows, and an entry for each, which is its parent.
+module _ {file parents : List ℕ} (p : Parented file parents) where
+  pub handed-few : windowCount file ≤ greatestCount
+  handed-few = accepted-sound file (p .accepted) .few
+
+  pub handed-long : windowCount file ≤ length parents
+  handed-long = p .held .long
+
+  pub handed-parent : (v : ℕ) → v < windowCount file → getD parents v 0 ≡ parent (overlaps file) v
+  handed-parent v h = p .held .at v h
 
 -- The way up before a test: where it stands, that each step lowered the position, and that every window so far stands
 -- behind the last of the earlier one.
@@ -56,14 +74,14 @@ module _ (n : ℕ) (overlaps : ℕ → ℕ → Bool) (u v : ℕ) where
 
   pub climbing-start : Climbing n overlaps u v v 0
   climbing-start =
-      record { stands = sym (ancestor-zero overlaps v); fell = omega arith; behind = λ k h. absurd (omega arith) }
+      record { stands = sym (ancestor-zero (tree overlaps) v); fell = omega arith; behind = λ k h. absurd (omega arith) }
 
   module _ (at steps : ℕ) (s : Climbing n overlaps u v at steps) where
     -- A step up to a parent that is another window.
     pub climbing-turn : (up : ℕ) → last n overlaps u < at → up ≡ parent overlaps at → (up ≡ at → ⊥) → Climbing n overlaps u v up (steps + 1)
     climbing-turn up past e other =
         record {
-          stands = rw (add-one steps, ancestor-suc overlaps steps v, ← s .stands) e;
+          stands = rw (add-one steps, ancestor-suc (tree overlaps) steps v, ← s .stands) e;
           fell = omega (arith, s .fell, parent-le overlaps at, other);
           behind = λ k h. ⊎-elim (s .behind k) (λ g. let f : k ≡ steps = omega arith in rw (f, ← s .stands) past) (lt-or-ge k steps);
         }
@@ -88,4 +106,4 @@ module _ (n : ℕ) (overlaps : ℕ → ℕ → Bool) (u v : ℕ) where
         stays : (j : ℕ) → steps ≤ j → last n overlaps u < ancestor overlaps j v
         stays j h =
             let e : j ≡ (j - steps) + steps = omega arith in
-            rw (e, ancestor-add overlaps (j - steps) steps v, ← s .stands, fixed-stays overlaps (j - steps) at (sym root)) past
+            rw (e, ancestor-add (tree overlaps) (j - steps) steps v, ← s .stands, fixed-stays (tree overlaps) (j - steps) at (sym root)) past

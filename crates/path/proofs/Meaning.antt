@@ -20,9 +20,8 @@ use Rattle.plan.proofs.Overlap.{interval-order}
 use Rattle.path.specs.declared.answers.SameAnswer.the-variants.{Same, Different}
 use Rattle.path.specs.Chain.{chainBetween}
 use Rattle.path.specs.Neighbours.{neighboursOf}
-use Rattle.path.specs.Sameness.{samePlans, sameAnswerOf}
-use Rattle.path.proofs.Alike.{same-iff-numbers}
-use Rattle.path.proofs.Asked.{compared}
+use Rattle.path.specs.Sameness.{sameOverlap, sameAnswerOf}
+use Rattle.path.proofs.Sameness.{same-iff-numbers, compared}
 
 module _ (file : List ℕ) (ok : AcceptedPlan file) where
   module _ (a b : ℕ) (within : a < windowCount file) (within′ : b < windowCount file) where
@@ -58,9 +57,9 @@ different-not-same e = let z : _≡_ {A = ℕ} 0 1 = cc in omega arith
 pub same-answer-iff-numbers : (first second : List ℕ) → AcceptedPlan first → AcceptedPlan second → (sameAnswerOf first second ≡ Same) ↔ ((windowCount first ≡ windowCount second) × SameNumbers (windowCount first) (overlaps first) (overlaps second))
 same-answer-iff-numbers first second ok ok′ = (
   λ e. ⊎-elim (λ t. same-iff-numbers first second ok ok′ .0 t)
-      (λ t. absurd (different-not-same (sym (rw t at answer) ∙ e))) (truth (samePlans first second)),
+      (λ t. absurd (different-not-same (sym (rw t at answer) ∙ e))) (truth (sameOverlap first second)),
   λ s. rw (same-iff-numbers first second ok ok′ .1 s) at answer,
 )
   where
-    answer : sameAnswerOf first second ≡ cond (samePlans first second) Same Different
+    answer : sameAnswerOf first second ≡ cond (sameOverlap first second) Same Different
     answer = compared first second ok ok′

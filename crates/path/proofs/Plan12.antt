@@ -3,19 +3,19 @@
 use mathlib.Core.Path.{_≡_, refl}
 use mathlib.Core.List.{[], _∷_}
 use Rattle.interval_graph.specs.Walk.{climb, walk, chainOf}
-use Rattle.sequences.specs.Search.{passing}
+use Rattle.sequences.specs.Search.{passing, every}
 use Rattle.plan.proofs.Plan12.{file, meaning}
 use Rattle.path.specs.declared.answers.ChainAnswer.the-variants.{Chain, NoChain, Refused}
 use Rattle.path.specs.declared.answers.NeighboursAnswer.the-variants as NeighboursAnswer
 use Rattle.path.specs.declared.answers.SameAnswer.the-variants as SameAnswer
-use Rattle.path.specs.Questions.{positionQuestion, roomQuestion}
+use Rattle.wire.specs.Question.{refusalBy, refusalFrom, from, positionQuestion, positionQuestions, roomQuestion}
 use Rattle.path.specs.Chain.{chainBetween, chainQuestions, chainFound, chainAnswerOf}
 use Rattle.path.specs.Neighbours.{neighboursOf, neighboursQuestions, neighboursAnswerOf}
-use Rattle.path.specs.Sameness.{every, samePairs, samePlans, sameAnswerOf}
+use Rattle.path.specs.Sameness.{samePairs, sameOverlap, sameQuestions, sameAnswerOf}
 
 -- What a computation on the file opens.
 unfoldable answers : Unit {0}
-unfolding meaning climb walk chainOf passing positionQuestion roomQuestion chainBetween chainQuestions chainFound chainAnswerOf neighboursOf neighboursQuestions neighboursAnswerOf every samePairs samePlans sameAnswerOf
+unfolding meaning climb walk chainOf passing from positionQuestion positionQuestions roomQuestion chainBetween chainQuestions chainFound chainAnswerOf neighboursOf neighboursQuestions neighboursAnswerOf every samePairs sameOverlap sameQuestions sameAnswerOf
 answers = tt
 
 -- "0 to 5 is 3, chain 5 4 2 0 … 3 to 5 is 3, chain 5 4 2 3 … 1 to 3 is 2, chain 3 0 1 … 5 to 6: no chain."
@@ -32,7 +32,7 @@ unfolding answers
 plan-12-chain-level = refl
 
 -- In a table of four entries, in one of three, of two components, and of a position that the plan does not have.
-pub plan-12-answers : (chainAnswerOf file 0 5 4 ≡ Chain 4) × (chainAnswerOf file 0 5 3 ≡ Refused (record { number = 8; input = 0; position = 0 })) × (chainAnswerOf file 5 6 0 ≡ NoChain) × (chainAnswerOf file 6 7 9 ≡ Refused (record { number = 7; input = 1; position = 0 }))
+pub plan-12-answers : (chainAnswerOf file 0 5 4 ≡ Chain 4) × (chainAnswerOf file 0 5 3 ≡ Refused (refusalBy 8)) × (chainAnswerOf file 5 6 0 ≡ NoChain) × (chainAnswerOf file 6 7 9 ≡ Refused (refusalFrom 1 (refusalBy 7)))
 unfolding answers
 plan-12-answers = (refl, refl, refl, refl)
 

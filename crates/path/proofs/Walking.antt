@@ -16,13 +16,13 @@ use Rattle.sequences.proofs.Table.{length-table}
 use Rattle.sequences.proofs.Appending.{Written, written-none, written-more}
 use Rattle.interval_graph.specs.Tree.{parent, ancestor}
 use Rattle.interval_graph.specs.Walk.{climb, walk}
+use Rattle.interval_graph.proofs.Parent.{tree}
 use Rattle.interval_graph.proofs.Ancestor.{ancestor-zero, ancestor-suc, ancestor-le}
 use Rattle.interval_graph.proofs.ShortestChain.{chain-same, chain-walk, chain-none}
-use Rattle.wire.specs.Question.{question, firstNo}
+use Rattle.wire.specs.Question.{refusalBy, question, roomQuestion, firstNo}
 use Rattle.plan.specs.File.{windowCount}
 use Rattle.plan.specs.Overlap.{overlaps}
 use Rattle.path.specs.declared.answers.ChainAnswer.the-variants.{Chain, NoChain, Refused}
-use Rattle.path.specs.Questions.{roomQuestion}
 use Rattle.path.specs.Steps.{stepsBefore, walked, chainRest}
 use Rattle.path.specs.Chain.{chainBetween, chainFound, afterChain}
 
@@ -76,19 +76,19 @@ module _ (file : List ℕ) (v steps : ℕ) (before : List ℕ) where
   pub stepping-start : Stepping file v steps before before v 0
   unfolding table
   stepping-start =
-      record { within = omega arith; stands = sym (ancestor-zero (overlaps file) v); list = written-none before }
+      record { within = omega arith; stands = sym (ancestor-zero (tree (overlaps file)) v); list = written-none before }
 
   module _ (now : List ℕ) (at step : ℕ) (s : Stepping file v steps before now at step) where
     -- The walk never stands behind the later window.
     pub stepping-low : at ≤ v
-    stepping-low = omega (arith, s .stands, ancestor-le (overlaps file) step v)
+    stepping-low = omega (arith, s .stands, ancestor-le (tree (overlaps file)) step v)
 
     pub stepping-turn : (up : ℕ) → step < steps → steps < length before → up ≡ parent (overlaps file) at → Stepping file v steps before (set now step at) up (step + 1)
     unfolding table
     stepping-turn up h room e =
         record {
           within = omega arith;
-          stands = rw (add-one step, ancestor-suc (overlaps file) step v, ← s .stands) e;
+          stands = rw (add-one step, ancestor-suc (tree (overlaps file)) step v, ← s .stands) e;
           list = rw (add-one step, ← s .stands)
               (written-more before now (table (λ i. ancestor (overlaps file) i v) step) step at (sym (length-table (λ i. ancestor (overlaps file) i v) step)) (omega arith) (s .list));
         }
@@ -105,7 +105,7 @@ module _ (chain before : List ℕ) where
   unfolding firstNo roomQuestion question chainFound afterChain
   rest-none e = (rw (e, le-leb 0 (length before) (omega arith)), refl)
 
-  pub rest-short : length before < length chain → (Refused (record { number = 8; input = 0; position = 0 }) ≡ chainRest chain (length before)) × (before ≡ afterChain (Refused (record { number = 8; input = 0; position = 0 })) chain before)
+  pub rest-short : length before < length chain → (Refused (refusalBy 8) ≡ chainRest chain (length before)) × (before ≡ afterChain (Refused (refusalBy 8)) chain before)
   unfolding firstNo roomQuestion question afterChain
   rest-short h = (rw (lt-leb (length chain) (length before) h), refl)
 

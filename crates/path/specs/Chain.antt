@@ -6,11 +6,10 @@ use mathlib.Core.List.{List, [], _∷_, _++_}
 use lib.ListN.{length}
 use Rattle.sequences.specs.Table.{overwritten}
 use Rattle.interval_graph.specs.Walk.{chainOf}
-use Rattle.wire.specs.Question.{Question, firstNo}
+use Rattle.wire.specs.Question.{Question, positionQuestions, roomQuestion, firstNo}
 use Rattle.plan.specs.File.{windowCount}
 use Rattle.plan.specs.Overlap.{overlaps}
 use Rattle.plan.specs.Validation.{planQuestions}
-use Rattle.path.specs.Questions.{positionQuestion, roomQuestion}
 use Rattle.path.specs.declared.answers.ChainAnswer.{ChainAnswer}
 use Rattle.path.specs.declared.answers.ChainAnswer.the-variants.{Chain, NoChain, Refused}
 
@@ -19,27 +18,22 @@ use Rattle.path.specs.declared.answers.ChainAnswer.the-variants.{Chain, 
 unfoldable pub chainBetween : List ℕ → ℕ → ℕ → List ℕ
 chainBetween file first second = chainOf (windowCount file) (overlaps file) first second
 
--- "Two named positions are likewise put to their question first and then second", and then 8, of "the chain". Of no chain
--- nothing is to be written, so any table holds it.
-unfoldable pub chainQuestions : (windows first second : ℕ) → (chain : List ℕ) → (room : ℕ) → List Question
-chainQuestions windows first second chain room =
-    positionQuestion 0 first windows
-    ∷ positionQuestion 1 second windows
-    ∷ roomQuestion (length chain) room
-    ∷ []
+-- Questions 1 to 6, 7 of the first position and of the second, and 8, of "the chain". Of no chain nothing is to be written, so any
+-- table holds it.
+unfoldable pub chainQuestions : List ℕ → (first second room : ℕ) → List Question
+chainQuestions file first second room =
+    planQuestions file
+    ++ (positionQuestions first second (windowCount file) ++ (roomQuestion (length (chainBetween file first second)) room ∷ []))
 
 -- The number of entries of a chain, or that there is none.
 unfoldable pub chainFound : List ℕ → ChainAnswer
 chainFound [] = NoChain
 chainFound (x ∷ l) = Chain (length (x ∷ l))
 
--- The answer for every file, any two positions and any table: questions 1 to 6, 7 and 8, and then the chain.
+-- The answer for every file, any two positions and any table.
 unfoldable pub chainAnswerOf : List ℕ → (first second room : ℕ) → ChainAnswer
 chainAnswerOf file first second room =
-    firstNo
-    (planQuestions 0 file ++ chainQuestions (windowCount file) first second (chainBetween file first second) room)
-    Refused
-    (chainFound (chainBetween file first second))
+    firstNo (chainQuestions file first second room) Refused (chainFound (chainBetween file first second))
 
 -- The table afterwards: the chain written to its front, or all of it as it was.
 unfoldable pub afterChain : ChainAnswer → (chain before : List ℕ) → List ℕ

@@ -1,10 +1,8 @@
 -- Answers from a plan, in reading order.
---   Questions   questions 7 and 8
 --   Chain       the chain between two windows
 --   Neighbours  the windows that overlap one window
 --   Sameness    whether the same pairs of windows overlap in two plans
 --   Steps       what the walk behind `chain` counts and writes; no public promise cites it
-pub mod Questions
 pub mod Chain
 pub mod Neighbours
 pub mod Sameness

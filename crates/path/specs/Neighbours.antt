@@ -6,11 +6,10 @@ use mathlib.Core.List.{List, [], _∷_, _++_}
 use lib.ListN.{length}
 use Rattle.sequences.specs.Search.{passing}
 use Rattle.sequences.specs.Table.{overwritten}
-use Rattle.wire.specs.Question.{Question, firstNo}
+use Rattle.wire.specs.Question.{Question, positionQuestion, roomQuestion, firstNo}
 use Rattle.plan.specs.File.{windowCount}
 use Rattle.plan.specs.Overlap.{overlaps}
 use Rattle.plan.specs.Validation.{planQuestions}
-use Rattle.path.specs.Questions.{positionQuestion, roomQuestion}
 use Rattle.path.specs.declared.answers.NeighboursAnswer.{NeighboursAnswer}
 use Rattle.path.specs.declared.answers.NeighboursAnswer.the-variants.{Neighbours, Refused}
 
@@ -18,17 +17,15 @@ use Rattle.path.specs.declared.answers.NeighboursAnswer.the-variants.{Ne
 unfoldable pub neighboursOf : List ℕ → ℕ → List ℕ
 neighboursOf file at = passing (overlaps file at) 0 (windowCount file)
 
--- 7, of the position, and 8, of "the neighbours".
-unfoldable pub neighboursQuestions : (windows at count room : ℕ) → List Question
-neighboursQuestions windows at count room = positionQuestion 0 at windows ∷ roomQuestion count room ∷ []
+-- Questions 1 to 6, 7, and 8, of "the neighbours".
+unfoldable pub neighboursQuestions : List ℕ → (at room : ℕ) → List Question
+neighboursQuestions file at room =
+    planQuestions file ++ (positionQuestion at (windowCount file) ∷ roomQuestion (length (neighboursOf file at)) room ∷ [])
 
--- The answer for every file, position and table: questions 1 to 6, 7 and 8, and then how many neighbours there are.
+-- The answer for every file, position and table: how many neighbours there are.
 unfoldable pub neighboursAnswerOf : List ℕ → (at room : ℕ) → NeighboursAnswer
 neighboursAnswerOf file at room =
-    firstNo
-    (planQuestions 0 file ++ neighboursQuestions (windowCount file) at (length (neighboursOf file at)) room)
-    Refused
-    (Neighbours (length (neighboursOf file at)))
+    firstNo (neighboursQuestions file at room) Refused (Neighbours (length (neighboursOf file at)))
 
 -- The table afterwards: the neighbours written to its front, or all of it as it was.
 unfoldable pub afterNeighbours : NeighboursAnswer → (neighbours before : List ℕ) → List ℕ

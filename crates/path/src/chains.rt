@@ -1,16 +1,17 @@
 // The chain between two windows. It is counted first, so that nothing is written where it does not fit.
 use crate::answers::ChainAnswer;
-use crate::answers::refusal;
 use crate::walk::steps_before;
 use crate::walk::write_walk;
+use plan::GREATEST_COUNT;
 use tree::TableAnswer;
+use wire::Asked;
+use wire::Refusal;
 ghost use mathlib.Core.Path.{_≡_};
 ghost use Prim.Native.Nat.{_≤_, _<_};
 ghost use lib.ListN.{length};
 ghost use Rattle.plan.specs.File.{windowCount};
-ghost use Rattle.tree.specs.Passes.{Parented};
 ghost use Rattle.path.specs.Chain.{chainBetween, chainAnswerOf, afterChain};
-ghost use Rattle.path.specs.Steps.{chainRest};
+ghost use Rattle.path.specs.Steps.{Parented, chainRest};
 
 // The chain between two windows of an accepted plan, the earlier and the later, which may be one.
 fn write_between(
@@ -20,7 +21,7 @@ fn write_between(
     later: usize,
     out: &mut [u16],
 ) -> ChainAnswer
-    requires { ⌜ Parented (now file) (windowCount (now file)) (now parents) ⌝ }
+    requires { ⌜ Parented (now file) (now parents) ⌝ }
     requires { ⌜ earlier ≤ later ⌝ }
     requires { ⌜ later < windowCount (now file) ⌝ }
     ensures { λ r. ⌜ r ≡ chainRest (chainBetween (now (file .entry)) earlier later) (length (now (out .entry))) ⌝ }
@@ -31,7 +32,7 @@ fn write_between(
         return ChainAnswer::NoChain;
     }
     if out.len() <= steps {
-        return ChainAnswer::Refused(refusal(8, 0));
+        return ChainAnswer::Refused(Refusal::by(8));
     }
     write_walk(file, parents, earlier, later, steps, out);
     let entries = (steps + 1) as u16;
@@ -43,16 +44,14 @@ pub fn chain(file: &[u8], first: usize, second: usize, out: &mut [u16]) -> Chain
     ensures { λ r. ⌜ r ≡ chainAnswerOf (now (file .entry)) first second (length (now (out .entry))) ⌝ }
     ensures { λ r. ⌜ now (out .exit) ≡ afterChain r (chainBetween (now (file .entry)) first second) (now (out .entry)) ⌝ }
 {
-    let mut parents = [0; 2048];
+    let mut parents = [0; GREATEST_COUNT];
     let windows = match tree::parent_table(file, &mut parents) {
         TableAnswer::Filled { windows } => windows as usize,
         TableAnswer::Refused(refusal) => return ChainAnswer::Refused(refusal),
     };
-    if windows <= first {
-        return ChainAnswer::Refused(refusal(7, 0));
-    }
-    if windows <= second {
-        return ChainAnswer::Refused(refusal(7, 1));
+    let asked = wire::ask_positions(first, second, windows);
+    if let Asked::Refused(refusal) = asked {
+        return ChainAnswer::Refused(refusal);
     }
     if first < second {
         return write_between(file, &parents, first, second, out);

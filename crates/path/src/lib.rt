@@ -1,14 +1,14 @@
 // Answers from a plan: the chain between two windows, a window's neighbours, and whether two plans are the same.
-mod adjacency;
 mod answers;
 mod chains;
-mod comparison;
+mod neighbourhood;
+mod same_plans;
 mod walk;
 mod windows;
 
-pub use adjacency::neighbours;
 pub use answers::ChainAnswer;
 pub use answers::NeighboursAnswer;
 pub use answers::SameAnswer;
 pub use chains::chain;
-pub use comparison::same;
+pub use neighbourhood::neighbours;
+pub use same_plans::same;

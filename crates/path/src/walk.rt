@@ -12,8 +12,7 @@ ghost use Rattle.interval_graph.specs.Walk.{climb};
 ghost use Rattle.plan.specs.File.{windowCount};
 ghost use Rattle.plan.specs.Overlap.{overlaps};
 ghost use Rattle.plan.specs.Validation.{AcceptedPlan};
-ghost use Rattle.tree.specs.Passes.{Parented};
-ghost use Rattle.path.specs.Steps.{stepsBefore, walked};
+ghost use Rattle.path.specs.Steps.{Parented, stepsBefore, walked};
 
 // Whether a window stands behind the last of the earlier one: behind it, and apart from it.
 fn is_past(file: &[u8], earlier: usize, at: usize) -> bool
@@ -30,7 +29,7 @@ fn is_past(file: &[u8], earlier: usize, at: usize) -> bool
 
 // The steps up from the later window to one that is not past the earlier one's last; `later + 1` where the root is.
 fn climb_steps(file: &[u8], parents: &[u16], earlier: usize, later: usize) -> usize
-    requires { ⌜ Parented (now file) (windowCount (now file)) (now parents) ⌝ }
+    requires { ⌜ Parented (now file) (now parents) ⌝ }
     requires { ⌜ earlier < windowCount (now file) ⌝ }
     requires { ⌜ later < windowCount (now file) ⌝ }
     ensures { λ r. ⌜ r ≡ climb (windowCount (now (file .entry))) (overlaps (now (file .entry))) earlier later ⌝ }
@@ -50,7 +49,7 @@ fn climb_steps(file: &[u8], parents: &[u16], earlier: usize, later: usize) -> us
 
 // How many windows stand before the earlier one on the chain; more than `later + 1` where there is no chain.
 pub(crate) fn steps_before(file: &[u8], parents: &[u16], earlier: usize, later: usize) -> usize
-    requires { ⌜ Parented (now file) (windowCount (now file)) (now parents) ⌝ }
+    requires { ⌜ Parented (now file) (now parents) ⌝ }
     requires { ⌜ earlier < windowCount (now file) ⌝ }
     requires { ⌜ later < windowCount (now file) ⌝ }
     ensures { λ r. ⌜ r ≡ stepsBefore (now (file .entry)) earlier later ⌝ }
@@ -70,7 +69,7 @@ pub(crate) fn write_walk(
     steps: usize,
     out: &mut [u16],
 )
-    requires { ⌜ Parented (now file) (windowCount (now file)) (now parents) ⌝ }
+    requires { ⌜ Parented (now file) (now parents) ⌝ }
     requires { ⌜ earlier < windowCount (now file) ⌝ }
     requires { ⌜ later < windowCount (now file) ⌝ }
     requires { ⌜ steps < length (now out) ⌝ }

@@ -2,7 +2,7 @@
 -- itself, and how large a count can be; and for two positions of a tag file.
 -- Vocabulary: pair-*, compared-*, agreeing-*.
 -- Assumes nothing.
-use Prim.Native.Nat.{ℕ, _%_, _≤_, _<_}
+use Prim.Native.Nat.{ℕ, _/_, _%_, _≤_, _<_}
 use mathlib.Core.Bool.{true, false}
 use mathlib.Core.Path.{_≡_, refl, sym, ap, _∙_}
 use mathlib.Core.List.{List, _++_, List·Memᴰ·head, List·Memᴰ·tail}
@@ -13,8 +13,10 @@ use Rattle.sequences.proofs.Tests.{eqb-symmetric}
 use Rattle.interval_graph.specs.Numbers.{Numbers, Outcome, apart, no-chain, equal, comesFirst, between, outcome}
 use Rattle.interval_graph.proofs.Outcome.{equal-refl, equal-symmetric, outcome-equal, outcome-components, outcome-first, outcome-second, outcome-symmetric, outcome-most}
 use Rattle.wire.specs.declared.Refusal.{Refusal}
+use Rattle.wire.specs.declared.Asked.{Asked}
+use Rattle.wire.specs.declared.Asked.the-variants as asked
 use Rattle.wire.specs.Question.{refusalBy, refusalFrom, question, from, firstNo, askedOf, positionQuestions}
-use Rattle.wire.proofs.Question.{first-append, first-from, answer-accepted, afterAsked, asked-first, first-all, all-member, all-from, append-left, append-right}
+use Rattle.wire.proofs.Question.{first-append, first-from, answer-accepted, afterAsked, asked-first, first-all, all-member, all-from, append-left, append-right, passed-within}
 use Rattle.tag.specs.declared.reader.Tag.{Tag}
 use Rattle.tag.specs.declared.reader.TagRead.the-variants as read
 use Rattle.tag.specs.declared.pairs.PairAnswer.{PairAnswer}
@@ -22,11 +24,11 @@ use Rattle.tag.specs.declared.pairs.PairAnswer.the-variants.{Handovers, 
 use Rattle.tag.specs.Fields.{tagLength, fieldLimit, tagOf, numbers, tagWith, tagBytes, withinLimit}
 use Rattle.tag.specs.Reading.{readQuestions, readAnswerOf}
 use Rattle.tag.specs.TagFile.{tagFile, tagCount, tagPart, tagFileQuestion, lookupPart}
-use Rattle.tag.specs.Pairing.{agreeing, compareQuestions, pairQuestions, answerOf, comparedOf, pairAnswerOf, pairAtAnswerOf}
+use Rattle.tag.specs.Pairing.{agreeing, compareQuestions, pairQuestions, answerOf, comparedOf, pairAnswerOf, pairAtQuestions, pairAtAnswerOf}
 use Rattle.tag.proofs.Fields.{Within, within-limit, numbers-tagWith}
 use Rattle.tag.proofs.Reading.{valid-reads, questions-valid, questions-refused}
 use Rattle.tag.proofs.Writing.{tagBytes-read}
-use Rattle.tag.proofs.TagFile.{tagFile-lookup}
+use Rattle.tag.proofs.TagFile.{lookup-position, length-tagFile, tagFile-lookup}
 
 -- The answer from two byte strings, by their readings.
 module _ (first second : List ℕ) where
@@ -196,10 +198,28 @@ pair-most first second k e =
 -- The answer for two positions of a tag file: 9, 7, and then the two tags.
 module _ (tags : List ℕ) (first second : ℕ) where
   pub pair-at-9 : (length tags % tagLength ≡ 0 → ⊥) → Refused (refusalBy 9) ≡ pairAtAnswerOf tags first second
-  unfolding pairAtAnswerOf tagFileQuestion firstNo question
+  unfolding pairAtAnswerOf pairAtQuestions tagFileQuestion firstNo question
   pair-at-9 other = rw (ne-eqb (length tags % tagLength) 0 other)
 
   pub pair-at-asked : length tags % tagLength ≡ 0 → pairAtAnswerOf tags first second ≡ afterAsked (askedOf (positionQuestions first second (tagCount tags))) Refused (pairAnswerOf (tagPart tags first) (tagPart tags second))
-  unfolding pairAtAnswerOf tagFileQuestion firstNo question
+  unfolding pairAtAnswerOf pairAtQuestions pairAnswerOf tagFileQuestion firstNo question
   pair-at-asked whole =
-      rw (eq-eqb (length tags % tagLength) 0 whole) (asked-first (positionQuestions first second (tagCount tags)) Refused _)
+      rw (eq-eqb (length tags % tagLength) 0 whole)
+      (first-append (positionQuestions first second (tagCount tags)) (pairQuestions (tagPart tags first) (tagPart tags second)) Refused _
+      ∙ asked-first (positionQuestions first second (tagCount tags)) Refused _)
+
+-- In a tag file of n tags that is the pair call on the two parts that a lookup hands back.
+pub pair-at-tagFile : (f : ℕ → Numbers) (n first second : ℕ) → pairAtAnswerOf (tagFile f n) first second ≡ firstNo (positionQuestions first second n) Refused (pairAnswerOf (lookupPart (tagFile f n) first) (lookupPart (tagFile f n) second))
+unfolding tagCount
+pair-at-tagFile f n first second =
+    let long = length-tagFile f n in
+    let counted : length (tagFile f n) / tagLength ≡ n = omega arith in
+    pair-at-asked (tagFile f n) first second (omega arith)
+    ∙ (rw counted (passed-parts (askedOf (positionQuestions first second n)) refl)
+    ∙ sym (asked-first (positionQuestions first second n) Refused _))
+  where
+    passed-parts : (a : Asked) → a ≡ askedOf (positionQuestions first second n) → afterAsked a Refused (pairAnswerOf (tagPart (tagFile f n) first) (tagPart (tagFile f n) second)) ≡ afterAsked a Refused (pairAnswerOf (lookupPart (tagFile f n) first) (lookupPart (tagFile f n) second))
+    passed-parts asked.Passed e =
+        let within = passed-within first second n e in
+        rw (lookup-position (tagFile f n) n first (length-tagFile f n) (within .0), lookup-position (tagFile f n) n second (length-tagFile f n) (within .1))
+    passed-parts (asked.Refused r) e = refl

@@ -1,14 +1,18 @@
 -- `path::chains::chain` meets its contract: the validation's refusal, then question 7 of each position, and then what is left, in
 -- either order of naming.
 -- Assumes nothing.
-use mathlib.Core.Path.{refl}
+use mathlib.Core.Path.{_≡_, refl, sym, _∙_}
 use native.Mathlib.Omega.{arith}
+use Rattle.wire.proofs.Question.{passed-within}
+use Rattle.plan.specs.Validation.{greatestCount}
+use Rattle.tree.proofs.SingleTabled.{tabled, table-refuses}
 use Rattle.path.specs.Chain.{afterChain}
-use Rattle.path.proofs.Tabled.{tabled, tabled-parents, table-refuses}
-use Rattle.path.proofs.Asked.{chain-refused, chain-first-past, chain-second-past, chain-asked, chain-asked-turned}
+use Rattle.path.proofs.Chaining.{parented, chain-refused, chain-past, chain-asked, chain-asked-turned}
 use borrow.Author.Needs.{needs}
 use Rattle.path.proofs.chains.chain.Statement.{statement}
 use Rattle.path.proofs.chains.chain.Tie as tie
+use Rattle.tree.proofs.parent_table.Reads as parent-table-reads
+use Rattle.wire.proofs.ask_positions.Reads as ask-positions-reads
 
 slice-aggregate-parent-table : tie.Need-slice-aggregate-parent-table
 slice-aggregate-parent-table c = search needs
@@ -27,51 +31,70 @@ enum-known-refusal c = search needs
 
 returns : tie.Need-returns
 unfolding afterChain
-returns c = (chain-refused _ _ _ _ _ (table-refuses _ 2048 (omega arith) _ _ (c .before .before .before .before .parent-table .ensures .0) (c .before .refusal .given .1)), refl)
+returns c = (chain-refused _ _ _ _ _ (table-refuses _ greatestCount (omega arith) _ _ (c .before .before .before .before .parent-table .ensures .0) (c .before .refusal .given .1)), refl)
 
-refusal-requires : tie.Need-refusal-requires
-refusal-requires c κs = search needs
+ask-positions-requires : tie.Need-ask-positions-requires
+ask-positions-requires c κs = search needs
+
+enum-known-asked : tie.Need-enum-known-asked
+enum-known-asked c = search needs
 
 returns-2 : tie.Need-returns-2
 unfolding afterChain
-returns-2 c = let t = tabled _ _ _ _ _ _ (omega arith) (c .before .before .before .before .before .before .parent-table .ensures .0) (c .before .before .before .windows .given .1) (c .before .before .before .before .before .before .parent-table .ensures .1) in
-    rw (c .refusal2 .ensures) (chain-first-past _ _ _ _ (t .accepted) _ (t .counted) (c .before .if1 .taken), refl)
+returns-2 c = let a = c .before .before .before in
+    let d = a .before .before in
+    let filled = d .before .before .before .parent-table .ensures in
+    let t = tabled _ _ _ _ _ _ (omega arith) (filled .0) (d .windows .given .1) (filled .1) in
+    (chain-past _ _ _ _ (t .plan) _ (a .ask-positions .ensures) _ (c .before .asked .given .1), refl)
 
-refusal-requires-2 : tie.Need-refusal-requires-2
-refusal-requires-2 c κs = search needs
-
-returns-3 : tie.Need-returns-3
-unfolding afterChain
-returns-3 c = let t = tabled _ _ _ _ _ _ (omega arith) (c .before .before .before .before .before .before .before .parent-table .ensures .0) (c .before .before .before .before .windows .given .1) (c .before .before .before .before .before .before .before .parent-table .ensures .1) in
-    rw (c .refusal3 .ensures) (chain-second-past _ _ _ _ (t .accepted) _ (t .counted) (c .before .before .if1 .left) (c .before .if2 .taken), refl)
+enum-told : tie.Need-enum-told
+enum-told c = search needs
 
 slice-aggregate-write-between : tie.Need-slice-aggregate-write-between
 slice-aggregate-write-between c = search needs
 
 write-between-requires : tie.Need-write-between-requires
-write-between-requires c κs = let t = tabled _ _ _ _ _ _ (omega arith) (c .before .before .before .before .before .before .before .before .before .parent-table .ensures .0) (c .before .before .before .before .before .before .windows .given .1) (c .before .before .before .before .before .before .before .before .before .parent-table .ensures .1) in
-    (tabled-parents t, (omega (arith, c .before .before .if3 .taken), omega (arith, t .counted, c .before .before .before .if2 .left)))
+write-between-requires c κs = let a = c .before .before .before .before .before in
+    let d = a .before .before in
+    let filled = d .before .before .before .parent-table .ensures in
+    let t = tabled _ _ _ _ _ _ (omega arith) (filled .0) (d .windows .given .1) (filled .1) in
+    let within = passed-within _ _ _ (sym (c .before .before .before .enum-told .given .1) ∙ a .ask-positions .ensures) in
+    (parented t, (omega (arith, c .before .before .if1 .taken), omega (arith, within, t .plan .counted)))
 
 same-length : tie.Need-same-length
 same-length c = search needs
 
-returns-4 : tie.Need-returns-4
-returns-4 c = let t = tabled _ _ _ _ _ _ (omega arith) (c .before .before .before .before .before .before .before .before .before .before .before .before .parent-table .ensures .0) (c .before .before .before .before .before .before .before .before .before .windows .given .1) (c .before .before .before .before .before .before .before .before .before .before .before .before .parent-table .ensures .1) in
-    chain-asked _ _ _ _ (t .accepted) _ (t .counted) (c .before .before .before .before .before .before .before .if1 .left) (c .before .before .before .before .before .before .if2 .left) _ _ _ (c .before .before .write-between .ensures .0) (c .before .before .write-between .ensures .1)
+returns-3 : tie.Need-returns-3
+returns-3 c = let b = c .before .before .before .before .before .before in
+    let a = b .before .before in
+    let d = a .before .before in
+    let filled = d .before .before .before .parent-table .ensures in
+    let t = tabled _ _ _ _ _ _ (omega arith) (filled .0) (d .windows .given .1) (filled .1) in
+    let written = c .before .before .write-between .ensures in
+    chain-asked _ _ _ _ (t .plan) _ (a .ask-positions .ensures) (b .enum-told .given .1) _ _ _ (written .0) (written .1)
 
 slice-aggregate-write-between-2 : tie.Need-slice-aggregate-write-between-2
 slice-aggregate-write-between-2 c = search needs
 
 write-between-requires-2 : tie.Need-write-between-requires-2
-write-between-requires-2 c κs = let t = tabled _ _ _ _ _ _ (omega arith) (c .before .before .before .before .before .before .before .before .before .parent-table .ensures .0) (c .before .before .before .before .before .before .windows .given .1) (c .before .before .before .before .before .before .before .before .before .parent-table .ensures .1) in
-    (tabled-parents t, (c .before .before .if3 .left, omega (arith, t .counted, c .before .before .before .before .if1 .left)))
+write-between-requires-2 c κs = let a = c .before .before .before .before .before in
+    let d = a .before .before in
+    let filled = d .before .before .before .parent-table .ensures in
+    let t = tabled _ _ _ _ _ _ (omega arith) (filled .0) (d .windows .given .1) (filled .1) in
+    let within = passed-within _ _ _ (sym (c .before .before .before .enum-told .given .1) ∙ a .ask-positions .ensures) in
+    (parented t, (c .before .before .if1 .left, omega (arith, within, t .plan .counted)))
 
 same-length-2 : tie.Need-same-length-2
 same-length-2 c = search needs
 
-returns-5 : tie.Need-returns-5
-returns-5 c = let t = tabled _ _ _ _ _ _ (omega arith) (c .before .before .before .before .before .before .before .before .before .before .before .before .parent-table .ensures .0) (c .before .before .before .before .before .before .before .before .before .windows .given .1) (c .before .before .before .before .before .before .before .before .before .before .before .before .parent-table .ensures .1) in
-    chain-asked-turned _ _ _ _ (t .accepted) _ (t .counted) (c .before .before .before .before .before .before .before .if1 .left) (c .before .before .before .before .before .before .if2 .left) _ _ _ (c .before .before .write-between2 .ensures .0) (c .before .before .write-between2 .ensures .1)
+returns-4 : tie.Need-returns-4
+returns-4 c = let b = c .before .before .before .before .before .before in
+    let a = b .before .before in
+    let d = a .before .before in
+    let filled = d .before .before .before .parent-table .ensures in
+    let t = tabled _ _ _ _ _ _ (omega arith) (filled .0) (d .windows .given .1) (filled .1) in
+    let written = c .before .before .write-between2 .ensures in
+    chain-asked-turned _ _ _ _ (t .plan) _ (a .ask-positions .ensures) (b .enum-told .given .1) _ _ _ (written .0) (written .1)
 
 pub chain-spec : {M : Type 1} → statement M
 chain-spec =
@@ -83,15 +106,15 @@ chain-spec =
     cast-windows
     enum-known-refusal
     returns
-    refusal-requires
+    ask-positions-requires
+    enum-known-asked
     returns-2
-    refusal-requires-2
-    returns-3
+    enum-told
     slice-aggregate-write-between
     write-between-requires
     same-length
-    returns-4
+    returns-3
     slice-aggregate-write-between-2
     write-between-requires-2
     same-length-2
-    returns-5)
+    returns-4)

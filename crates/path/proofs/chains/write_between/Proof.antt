@@ -1,7 +1,7 @@
 -- `path::chains::write_between` meets its contract: no chain, too little room, or the chain written.
 -- Assumes nothing.
 use native.Mathlib.Omega.{arith}
-use Rattle.path.proofs.Handed.{handed-few}
+use Rattle.path.proofs.Climbing.{handed-few}
 use Rattle.path.proofs.Walking.{between-apart, between-walked, between-length, rest-none, rest-short, rest-written}
 use borrow.Author.Needs.{needs}
 use Rattle.path.proofs.chains.write_between.Statement.{statement}
@@ -17,12 +17,12 @@ returns : tie.Need-returns
 returns c = let d = c .before .before .before .before .before in
     rest-none _ _ (between-apart _ _ _ _ (d .pre .1 .0) (c .before .steps-before .ensures) (c .if1 .taken))
 
-refusal-requires : tie.Need-refusal-requires
-refusal-requires c κs = search needs
+by-requires : tie.Need-by-requires
+by-requires c κs = search needs
 
 returns-2 : tie.Need-returns-2
 returns-2 c = let d = c .before .before .before .before .before .before .before in
-    rw (c .refusal .ensures) (rest-short _ _ (omega (arith, c .before .if2 .taken, between-length _ _ _ _ (d .pre .1 .0) (c .before .before .before .steps-before .ensures) (c .before .before .if1 .left))))
+    rw (c .by .ensures) (rest-short _ _ (omega (arith, c .before .if2 .taken, between-length _ _ _ _ (d .pre .1 .0) (c .before .before .before .steps-before .ensures) (c .before .before .if1 .left))))
 
 write-walk-requires : tie.Need-write-walk-requires
 write-walk-requires c κs = let d = c .before .before .before .before .before .before .before in
@@ -53,7 +53,7 @@ write-between-spec =
     steps-before-requires
     add-if1
     returns
-    refusal-requires
+    by-requires
     returns-2
     write-walk-requires
     add-entries

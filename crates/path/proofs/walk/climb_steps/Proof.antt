@@ -7,7 +7,7 @@ use denote.Ref.{now}
 use Rattle.plan.specs.File.{windowCount}
 use Rattle.plan.specs.Overlap.{overlaps}
 use Rattle.interval_graph.proofs.Parent.{parent-le}
-use Rattle.path.proofs.Handed.{handed-few, handed-long, handed-parent}
+use Rattle.path.proofs.Climbing.{handed-few, handed-long, handed-parent}
 use Rattle.path.proofs.Climbing.{Climbing, past-true, past-false, climbing-start, climbing-turn, climbing-arrived, climbing-root}
 use borrow.Author.Needs.{needs}
 use Rattle.path.proofs.walk.climb_steps.Statement.{statement}

@@ -3,7 +3,7 @@
 use Prim.Native.Nat.{_-_}
 use native.Mathlib.Omega.{arith}
 use lib.ListN.{length-set}
-use Rattle.path.proofs.Handed.{handed-few, handed-long, handed-parent}
+use Rattle.path.proofs.Climbing.{handed-few, handed-long, handed-parent}
 use Rattle.path.proofs.Walking.{Stepping, stepping-start, stepping-low, stepping-turn, stepping-end}
 use borrow.Author.Needs.{needs}
 use Rattle.path.proofs.walk.write_walk.Statement.{statement}

@@ -1,22 +1,39 @@
--- `path::windows::meets` meets its contract: no window overlaps itself, and two do if they share enough minutes.
+-- `path::windows::meets` meets its contract: no window overlaps itself, and of two the later begins before the bound of the earlier.
 -- Assumes nothing.
-use Rattle.path.proofs.Sharing.{overlaps-itself, overlaps-other}
+use native.Mathlib.Omega.{arith}
+use Rattle.path.proofs.Meeting.{meets-itself, meets-later, meets-earlier}
 use borrow.Author.Needs.{needs}
 use Rattle.path.proofs.windows.meets.Statement.{statement}
 use Rattle.path.proofs.windows.meets.Tie as tie
+use Rattle.plan.proofs.overlap_in_order.Reads as overlap-in-order-reads
 
 returns : tie.Need-returns
-returns c = overlaps-itself _ _ _ (c .if1 .taken)
+returns c = meets-itself _ (c .before .before .pre .0) _ _ (c .if1 .taken)
 
 window-at-requires : tie.Need-window-at-requires
-window-at-requires c κs = (c .before .before .pre .0, c .before .before .pre .1 .1)
+window-at-requires c κs = search needs
 
-share-requires : tie.Need-share-requires
-share-requires c κs = search needs
+overlap-in-order-requires : tie.Need-overlap-in-order-requires
+overlap-in-order-requires c κs = search needs
 
 returns-2 : tie.Need-returns-2
-returns-2 c = overlaps-other _ _ _ _ _ _ (c .before .before .if1 .left) (c .before .before .before .before .pre .1 .0) (c .before .window-at .ensures) (c .share .ensures)
+returns-2 c = let q = c .before .before .before .before .before .pre in
+    meets-later _ (q .0) _ _ _ _ _ (q .1 .0) (c .before .before .window-at .ensures) (c .before .if2 .taken) (q .1 .1 .1) (c .overlap-in-order .ensures)
+
+overlap-in-order-requires-2 : tie.Need-overlap-in-order-requires-2
+overlap-in-order-requires-2 c κs = search needs
+
+returns-3 : tie.Need-returns-3
+returns-3 c = let q = c .before .before .before .before .before .pre in
+    meets-earlier _ (q .0) _ _ _ _ _ (q .1 .0) (c .before .before .window-at .ensures) (omega (arith, c .before .if2 .left, c .before .before .before .if1 .left)) (q .1 .1 .0) (c .overlap-in-order2 .ensures)
 
 pub meets-spec : {M : Type 1} → statement M
 meets-spec =
-    tie.close (tie.spec returns window-at-requires share-requires returns-2)
+    tie.close
+    (tie.spec
+    returns
+    window-at-requires
+    overlap-in-order-requires
+    returns-2
+    overlap-in-order-requires-2
+    returns-3)

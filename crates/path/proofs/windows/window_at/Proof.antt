@@ -3,19 +3,19 @@
 use native.Mathlib.Omega.{arith}
 use denote.Ref.{now}
 use Rattle.plan.proofs.Validation.{window-at}
-use Rattle.path.proofs.Sharing.{window-inside}
+use Rattle.plan.proofs.Counted.{window-within}
 use borrow.Author.Needs.{needs}
 use Rattle.path.proofs.windows.window_at.Statement.{statement}
 use Rattle.path.proofs.windows.window_at.Tie as tie
 
 mul-at : tie.Need-mul-at
-mul-at c = omega (arith, window-inside (now (c .before .args .file)) (c .before .pre .0) (c .before .args .position) (c .before .pre .1))
+mul-at c = omega (arith, window-within (now (c .before .args .file)) (c .before .pre .0) (c .before .args .position) (c .before .pre .1))
 
 add-at : tie.Need-add-at
-add-at c = omega (arith, window-inside (now (c .before .args .file)) (c .before .pre .0) (c .before .args .position) (c .before .pre .1))
+add-at c = omega (arith, window-within (now (c .before .args .file)) (c .before .pre .0) (c .before .args .position) (c .before .pre .1))
 
 add-read-window : tie.Need-add-read-window
-add-read-window c = omega (arith, window-inside (now (c .before .args .file)) (c .before .pre .0) (c .before .args .position) (c .before .pre .1))
+add-read-window c = omega (arith, window-within (now (c .before .args .file)) (c .before .pre .0) (c .before .args .position) (c .before .pre .1))
 
 sub-read-window : tie.Need-sub-read-window
 sub-read-window c = search needs
@@ -24,7 +24,7 @@ part-read-window-start : tie.Need-part-read-window-start
 part-read-window-start c = search needs
 
 part-read-window-end : tie.Need-part-read-window-end
-part-read-window-end c = omega (arith, window-inside (now (c .before .args .file)) (c .before .pre .0) (c .before .args .position) (c .before .pre .1))
+part-read-window-end c = omega (arith, window-within (now (c .before .args .file)) (c .before .pre .0) (c .before .args .position) (c .before .pre .1))
 
 read-window-requires : tie.Need-read-window-requires
 read-window-requires c κs = search needs

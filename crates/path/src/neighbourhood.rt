@@ -1,22 +1,20 @@
 // The windows that overlap one window. They are counted first, so that nothing is written where they do not fit.
 use crate::answers::NeighboursAnswer;
-use crate::answers::refusal;
 use crate::windows::meets;
 use crate::windows::window_at;
 use plan::Validation;
+use wire::Refusal;
 ghost use mathlib.Core.Path.{_≡_};
 ghost use Prim.Native.Nat.{_≤_, _<_};
 ghost use lib.ListN.{length};
 ghost use Rattle.sequences.specs.Search.{count};
 ghost use Rattle.sequences.specs.Table.{overwritten};
-ghost use Rattle.plan.specs.File.{windowCount};
 ghost use Rattle.plan.specs.Overlap.{overlaps};
-ghost use Rattle.plan.specs.Validation.{AcceptedPlan};
+ghost use Rattle.plan.specs.AcceptedWindows.{AcceptedWindows};
 ghost use Rattle.path.specs.Neighbours.{neighboursOf, neighboursAnswerOf, afterNeighbours};
 
 fn count_neighbours(file: &[u8], windows: usize, at: usize) -> usize
-    requires { ⌜ AcceptedPlan (now file) ⌝ }
-    requires { ⌜ windows ≡ windowCount (now file) ⌝ }
+    requires { ⌜ AcceptedWindows (now file) windows ⌝ }
     requires { ⌜ at < windows ⌝ }
     ensures { λ r. ⌜ r ≡ length (neighboursOf (now (file .entry)) at) ⌝ }
 {
@@ -33,8 +31,7 @@ fn count_neighbours(file: &[u8], windows: usize, at: usize) -> usize
 }
 
 fn write_neighbours(file: &[u8], windows: usize, at: usize, out: &mut [u16])
-    requires { ⌜ AcceptedPlan (now file) ⌝ }
-    requires { ⌜ windows ≡ windowCount (now file) ⌝ }
+    requires { ⌜ AcceptedWindows (now file) windows ⌝ }
     requires { ⌜ at < windows ⌝ }
     requires { ⌜ length (neighboursOf (now file) at) ≤ length (now out) ⌝ }
     ensures { λ _. ⌜ now (out .exit) ≡ overwritten (now (out .entry)) (neighboursOf (now (file .entry)) at) ⌝ }
@@ -61,11 +58,11 @@ pub fn neighbours(file: &[u8], at: usize, out: &mut [u16]) -> NeighboursAnswer
         Validation::Refused(refusal) => return NeighboursAnswer::Refused(refusal),
     };
     if windows as usize <= at {
-        return NeighboursAnswer::Refused(refusal(7, 0));
+        return NeighboursAnswer::Refused(Refusal::by(7));
     }
     let found = count_neighbours(file, windows as usize, at);
     if out.len() < found {
-        return NeighboursAnswer::Refused(refusal(8, 0));
+        return NeighboursAnswer::Refused(Refusal::by(8));
     }
     write_neighbours(file, windows as usize, at, out);
     let listed = found as u16;

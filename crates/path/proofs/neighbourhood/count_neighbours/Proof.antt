@@ -1,4 +1,4 @@
--- `path::adjacency::count_neighbours` meets its contract. The loop's invariant is `Counted`; the measure is what is left of the
+-- `path::neighbourhood::count_neighbours` meets its contract. The loop's invariant is `Counted`; the measure is what is left of the
 -- windows.
 -- Assumes nothing.
 use Prim.Native.Nat.{_-_}
@@ -6,10 +6,10 @@ use mathlib.Core.Path.{sym, _∙_}
 use mathlib.Core.Logic.{⊎-elim}
 use native.Mathlib.Omega.{arith}
 use Rattle.plan.specs.Overlap.{overlaps}
-use Rattle.path.proofs.Listing.{Counted, counted-start, counted-more, counted-kept, counted-few, counted-end, listing-neighbours}
+use Rattle.path.proofs.Neighbouring.{Counted, counted-start, counted-more, counted-kept, counted-few, counted-end, listing-neighbours}
 use borrow.Author.Needs.{needs}
-use Rattle.path.proofs.adjacency.count_neighbours.Statement.{statement}
-use Rattle.path.proofs.adjacency.count_neighbours.Tie as tie
+use Rattle.path.proofs.neighbourhood.count_neighbours.Statement.{statement}
+use Rattle.path.proofs.neighbourhood.count_neighbours.Tie as tie
 
 abbrev Inv-loop : tie.InvT-loop
 Inv-loop file windows at window found₀ position₀ found position = Counted (overlaps file at) windows found position
@@ -18,14 +18,15 @@ abbrev μ-loop : tie.MeasureT-loop
 μ-loop file windows at window found₀ position₀ found position = windows - position
 
 window-at-requires : tie.Need-window-at-requires Inv-loop μ-loop
-window-at-requires c κs = search needs
+window-at-requires c κs = let p = c .before .pre .0 in (p .accepted, omega (arith, p .counted))
 
 loop-holds : tie.Need-loop-holds Inv-loop μ-loop
 loop-holds c = counted-start _ _
 
 meets-requires : tie.Need-meets-requires Inv-loop μ-loop
 meets-requires c κs = let d = c .before .before .before .before in
-    (d .pre .0, (c .before .before .window-at .ensures, omega arith))
+    let p = d .pre .0 in
+    (p .accepted, (c .before .before .window-at .ensures, (omega (arith, p .counted), omega (arith, p .counted))))
 
 add-found : tie.Need-add-found Inv-loop μ-loop
 add-found c = let s = c .before .before .before .loop in omega (arith, counted-few _ _ (s .found) (s .position) (s .inv))
@@ -44,7 +45,7 @@ loop-again c = let h = c .before .before .loop-test .taken in
 
 returns : tie.Need-returns Inv-loop μ-loop
 returns c = let d = c .before .before .before .before in
-    rw (← listing-neighbours _ _ _ (d .pre .1 .0)) (counted-end _ _ _ _ (c .loop-test .left) (c .before .loop .inv))
+    rw (← listing-neighbours _ _ _ (d .pre .0 .counted)) (counted-end _ _ _ _ (c .loop-test .left) (c .before .loop .inv))
 
 pub count-neighbours-spec : {M : Type 1} → statement M
 count-neighbours-spec =

@@ -13,7 +13,7 @@ use Rattle.sequences.specs.Search.{passing}
 use Rattle.sequences.specs.Table.{overwritten}
 use Rattle.sequences.proofs.Appending.{Written, written-none, written-more, passing-more, passing-kept, passing-monotone, passing-few}
 use Rattle.wire.specs.declared.Refusal.{Refusal}
-use Rattle.wire.specs.Question.{question, firstNo}
+use Rattle.wire.specs.Question.{refusalBy, question, positionQuestion, roomQuestion, firstNo}
 use Rattle.plan.specs.declared.questions.Validation.{Validation}
 use Rattle.plan.specs.declared.questions.Validation.the-variants as Validation
 use Rattle.plan.specs.File.{windowCount}
@@ -21,7 +21,6 @@ use Rattle.plan.specs.Overlap.{overlaps}
 use Rattle.plan.specs.Validation.{validateAnswerOf}
 use Rattle.plan.proofs.Calls.{plan-first, accepted-numbers}
 use Rattle.path.specs.declared.answers.NeighboursAnswer.the-variants.{Neighbours, Refused}
-use Rattle.path.specs.Questions.{positionQuestion, roomQuestion}
 use Rattle.path.specs.Neighbours.{neighboursOf, neighboursQuestions, neighboursAnswerOf}
 
 -- Before the position v of n: so many passed the test.
@@ -102,18 +101,18 @@ module _ (file : List ℕ) (windows at : ℕ) (named : windows ≡ windowCount f
 -- The answers.
 module _ (file : List ℕ) (at room : ℕ) (answer : Validation) (validated : answer ≡ validateAnswerOf file) where
   pub neighbours-refused : (refusal : Refusal) → answer ≡ Validation.Refused refusal → Refused refusal ≡ neighboursAnswerOf file at room
-  unfolding neighboursAnswerOf
+  unfolding neighboursAnswerOf neighboursQuestions
   neighbours-refused refusal e = sym (plan-first file _ Refused _ ∙ rw (← validated, e))
 
   module _ (plan windows : ℕ) (e : answer ≡ Validation.Accepted plan windows) where
-    pub neighbours-past : windows ≤ at → Refused (record { number = 7; input = 0; position = 0 }) ≡ neighboursAnswerOf file at room
+    pub neighbours-past : windows ≤ at → Refused (refusalBy 7) ≡ neighboursAnswerOf file at room
     unfolding neighboursAnswerOf neighboursQuestions positionQuestion question firstNo
     neighbours-past past =
         let named = accepted-numbers file plan windows (sym e ∙ validated) .1 in
         sym (plan-first file _ Refused _ ∙ rw (← validated, e, ← named, le-ltb at windows past))
 
     module _ (found : ℕ) (within : at < windows) (counted : found ≡ length (neighboursOf file at)) where
-      pub neighbours-short : room < found → Refused (record { number = 8; input = 0; position = 0 }) ≡ neighboursAnswerOf file at room
+      pub neighbours-short : room < found → Refused (refusalBy 8) ≡ neighboursAnswerOf file at room
       unfolding neighboursAnswerOf neighboursQuestions positionQuestion roomQuestion question firstNo
       neighbours-short short =
           let named = accepted-numbers file plan windows (sym e ∙ validated) .1 in

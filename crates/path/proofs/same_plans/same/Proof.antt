@@ -1,12 +1,13 @@
--- `path::comparison::same` meets its contract: the refusal of the first file, that of the second with input 1, and then the tables of
+-- `path::same_plans::same` meets its contract: the refusal of the first file, that of the second with input 1, and then the tables of
 -- lasts.
 -- Assumes nothing.
 use native.Mathlib.Omega.{arith}
-use Rattle.path.proofs.Tabled.{tabled, table-refuses}
-use Rattle.path.proofs.Asked.{same-refused, same-refused-second, same-lengths, same-yes, same-no}
+use Rattle.plan.specs.Validation.{greatestCount}
+use Rattle.tree.proofs.SingleTabled.{tabled, table-refuses}
+use Rattle.path.proofs.Sameness.{same-refused, same-refused-second, same-lengths, same-yes, same-no}
 use borrow.Author.Needs.{needs}
-use Rattle.path.proofs.comparison.same.Statement.{statement}
-use Rattle.path.proofs.comparison.same.Tie as tie
+use Rattle.path.proofs.same_plans.same.Statement.{statement}
+use Rattle.path.proofs.same_plans.same.Tie as tie
 
 slice-aggregate-last-table : tie.Need-slice-aggregate-last-table
 slice-aggregate-last-table c = search needs
@@ -21,7 +22,7 @@ enum-known-refusal : tie.Need-enum-known-refusal
 enum-known-refusal c = search needs
 
 returns : tie.Need-returns
-returns c = same-refused _ _ _ (table-refuses _ 2048 (omega arith) _ _ (c .before .before .before .before .last-table .ensures .0) (c .before .refusal .given .1))
+returns c = same-refused _ _ _ (table-refuses _ greatestCount (omega arith) _ _ (c .before .before .before .before .last-table .ensures .0) (c .before .refusal .given .1))
 
 slice-aggregate-last-table-2 : tie.Need-slice-aggregate-last-table-2
 slice-aggregate-last-table-2 c = search needs
@@ -35,12 +36,12 @@ enum-known-windows-2 c = search needs
 enum-known-refusal-2 : tie.Need-enum-known-refusal-2
 enum-known-refusal-2 c = search needs
 
-of-second-requires : tie.Need-of-second-requires
-of-second-requires c κs = search needs
+from-requires : tie.Need-from-requires
+from-requires c κs = search needs
 
 returns-2 : tie.Need-returns-2
 returns-2 c = let t = tabled _ _ _ _ _ _ (omega arith) (c .before .before .before .before .before .before .before .before .before .before .before .last-table .ensures .0) (c .before .before .before .before .before .before .before .before .windows .given .1) (c .before .before .before .before .before .before .before .before .before .before .before .last-table .ensures .1) in
-    rw (c .of-second .ensures) (same-refused-second _ _ (t .accepted) _ (table-refuses _ 2048 (omega arith) _ _ (c .before .before .before .before .before .last-table2 .ensures .0) (c .before .before .refusal2 .given .1)))
+    rw (c .from .ensures) (same-refused-second _ _ (t .plan .accepted) _ (table-refuses _ greatestCount (omega arith) _ _ (c .before .before .before .before .before .last-table2 .ensures .0) (c .before .before .refusal2 .given .1)))
 
 returns-3 : tie.Need-returns-3
 returns-3 c = let t = tabled _ _ _ _ _ _ (omega arith) (c .before .before .before .before .before .before .before .before .before .before .before .last-table .ensures .0) (c .before .before .before .before .before .before .before .before .windows .given .1) (c .before .before .before .before .before .before .before .before .before .before .before .last-table .ensures .1) in
@@ -84,7 +85,7 @@ same-spec =
     last-table-requires-2
     enum-known-windows-2
     enum-known-refusal-2
-    of-second-requires
+    from-requires
     returns-2
     returns-3
     slice-aggregate-agree

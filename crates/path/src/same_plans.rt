@@ -1,24 +1,14 @@
 // Whether two plans are the same. The pairs that overlap are the same exactly if every window's last is, so the plans'
 // tables of lasts are compared, and no pairs.
 use crate::answers::SameAnswer;
+use plan::GREATEST_COUNT;
 use tree::TableAnswer;
-use wire::Refusal;
 ghost use mathlib.Core.Path.{_≡_};
 ghost use Prim.Native.Nat.{_≤_};
 ghost use lib.ListN.{length, getD};
 ghost use lib.Dec.{eqb};
-ghost use Rattle.path.specs.Sameness.{every, sameAnswerOf};
-
-// The refusal of a file that is the second input.
-fn of_second(refusal: Refusal) -> Refusal
-    ensures { λ r. ⌜ r ≡ record { number = refusal .number; input = 1; position = refusal .position } ⌝ }
-{
-    Refusal {
-        number: refusal.number,
-        input: 1,
-        position: refusal.position,
-    }
-}
+ghost use Rattle.sequences.specs.Search.{every};
+ghost use Rattle.path.specs.Sameness.{sameAnswerOf};
 
 // Whether the first entries of two tables are equal.
 fn agree(first: &[u16], second: &[u16], entries: usize) -> bool
@@ -39,15 +29,15 @@ fn agree(first: &[u16], second: &[u16], entries: usize) -> bool
 pub fn same(first: &[u8], second: &[u8]) -> SameAnswer
     ensures { λ r. ⌜ r ≡ sameAnswerOf (now (first .entry)) (now (second .entry)) ⌝ }
 {
-    let mut lasts = [0; 2048];
+    let mut lasts = [0; GREATEST_COUNT];
     let windows = match tree::last_table(first, &mut lasts) {
         TableAnswer::Filled { windows } => windows,
         TableAnswer::Refused(refusal) => return SameAnswer::Refused(refusal),
     };
-    let mut others = [0; 2048];
+    let mut others = [0; GREATEST_COUNT];
     let count = match tree::last_table(second, &mut others) {
         TableAnswer::Filled { windows } => windows,
-        TableAnswer::Refused(refusal) => return SameAnswer::Refused(of_second(refusal)),
+        TableAnswer::Refused(refusal) => return SameAnswer::Refused(refusal.from(1)),
     };
     if windows != count {
         return SameAnswer::Different;

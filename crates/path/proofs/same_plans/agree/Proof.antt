@@ -1,4 +1,4 @@
--- `path::comparison::agree` meets its contract. The loop's invariant: the entries so far are equal. The measure is what is left.
+-- `path::same_plans::agree` meets its contract. The loop's invariant: the entries so far are equal. The measure is what is left.
 -- Assumes nothing.
 use Prim.Native.Nat.{ℕ, _-_, _≤_, _<_}
 use mathlib.Core.Path.{_≡_, sym}
@@ -7,10 +7,10 @@ use native.Mathlib.Omega.{arith}
 use lib.ListN.{getD}
 use borrow.Author.Tests.{eq-eqb, ne-eqb}
 use Rattle.sequences.proofs.Tests.{lt-or-ge}
-use Rattle.path.proofs.Alike.{every-intro, every-fails}
+use Rattle.sequences.proofs.Every.{every-intro, every-fails}
 use borrow.Author.Needs.{needs}
-use Rattle.path.proofs.comparison.agree.Statement.{statement}
-use Rattle.path.proofs.comparison.agree.Tie as tie
+use Rattle.path.proofs.same_plans.agree.Statement.{statement}
+use Rattle.path.proofs.same_plans.agree.Tie as tie
 
 abbrev Inv-loop : tie.InvT-loop
 Inv-loop first second entries position₀ position = (position ≤ entries) × ((k : ℕ) → k < position → getD first k 0 ≡ getD second k 0)

@@ -1,17 +1,16 @@
--- `path::adjacency::write_neighbours` meets its contract. The loop's invariant is `Listed`; the measure is what is left of the
+-- `path::neighbourhood::write_neighbours` meets its contract. The loop's invariant is `Listed`; the measure is what is left of the
 -- windows.
 -- Assumes nothing.
 use Prim.Native.Nat.{_-_}
 use mathlib.Core.Path.{sym, _∙_}
 use mathlib.Core.Logic.{⊎-elim}
 use native.Mathlib.Omega.{arith}
-use denote.Ref.{now}
 use Rattle.plan.specs.Overlap.{overlaps}
-use Rattle.path.proofs.Handed.{plan-few}
-use Rattle.path.proofs.Listing.{Listed, listed-start, listed-room, listed-more, listed-kept, listed-end, counted-few, listing-room, listing-neighbours}
+use Rattle.plan.proofs.Counted.{windows-few}
+use Rattle.path.proofs.Neighbouring.{Listed, listed-start, listed-room, listed-more, listed-kept, listed-end, counted-few, listing-room, listing-neighbours}
 use borrow.Author.Needs.{needs}
-use Rattle.path.proofs.adjacency.write_neighbours.Statement.{statement}
-use Rattle.path.proofs.adjacency.write_neighbours.Tie as tie
+use Rattle.path.proofs.neighbourhood.write_neighbours.Statement.{statement}
+use Rattle.path.proofs.neighbourhood.write_neighbours.Tie as tie
 
 abbrev Inv-loop : tie.InvT-loop
 Inv-loop file windows at out₀ window found₀ position₀ out found position = Listed (overlaps file at) windows out₀ out found position
@@ -20,27 +19,28 @@ abbrev μ-loop : tie.MeasureT-loop
 μ-loop file windows at out₀ window found₀ position₀ out found position = windows - position
 
 window-at-requires : tie.Need-window-at-requires Inv-loop μ-loop
-window-at-requires c κs = search needs
+window-at-requires c κs = let p = c .before .before .pre .0 in (p .accepted, omega (arith, p .counted))
 
 loop-holds : tie.Need-loop-holds Inv-loop μ-loop
 loop-holds c = listed-start _ _ _
 
 meets-requires : tie.Need-meets-requires Inv-loop μ-loop
 meets-requires c κs = let d = c .before .before .before .before .before in
-    (d .pre .0, (c .before .before .window-at .ensures, omega arith))
+    let p = d .pre .0 in
+    (p .accepted, (c .before .before .window-at .ensures, (omega (arith, p .counted), omega (arith, p .counted))))
 
 cast-out : tie.Need-cast-out Inv-loop μ-loop
 cast-out c = let d = c .before .before .before .before .before .before .before in
-    omega (arith, plan-few (now (d .args .file)) (d .args .windows) (d .pre .0) (d .pre .1 .0))
+    omega (arith, windows-few (d .pre .0))
 
 mul-out : tie.Need-mul-out Inv-loop μ-loop
 mul-out c = let d = c .before .before .before .before .before .before .before in
     let s = c .before .before .before .loop in
-    omega (arith, plan-few (now (d .args .file)) (d .args .windows) (d .pre .0) (d .pre .1 .0), counted-few _ _ (s .found) (s .position) (s .inv .so-far))
+    omega (arith, windows-few (d .pre .0), counted-few _ _ (s .found) (s .position) (s .inv .so-far))
 
 slice-write-out : tie.Need-slice-write-out Inv-loop μ-loop
 slice-write-out c = let d = c .before .before .before .before .before .before .before in
-    listed-room _ _ _ _ (c .before .before .loop-test .taken) _ _ (sym (c .before .meets .ensures) ∙ c .if1 .taken) (listing-room _ _ _ (d .pre .1 .0) _ (d .pre .1 .1 .1)) (c .before .before .before .loop .inv)
+    listed-room _ _ _ _ (c .before .before .loop-test .taken) _ _ (sym (c .before .meets .ensures) ∙ c .if1 .taken) (listing-room _ _ _ (d .pre .0 .counted) _ (d .pre .1 .1)) (c .before .before .before .loop .inv)
 
 add-found : tie.Need-add-found Inv-loop μ-loop
 add-found c = let s = c .before .before .before .loop in omega (arith, counted-few _ _ (s .found) (s .position) (s .inv .so-far))
@@ -56,7 +56,7 @@ loop-again c = let d = c .before .before .before .before .before .before .before
     let h = c .before .before .loop-test .taken in
     let s = c .before .before .before .loop .inv in
     let read = sym (c .before .meets .ensures) in
-    let room = listing-room _ _ _ (d .pre .1 .0) _ (d .pre .1 .1 .1) in
+    let room = listing-room _ _ _ (d .pre .0 .counted) _ (d .pre .1 .1) in
     ⊎-elim (λ w. rw (w .1, w .2) (listed-more _ _ _ _ h _ _ (read ∙ w .0 .taken) room s)) (λ w. rw (w .1, w .2) (listed-kept _ _ _ _ h _ _ (read ∙ w .0 .left) s)) (c .if1 .came)
 
 same-length : tie.Need-same-length Inv-loop μ-loop
@@ -64,7 +64,7 @@ same-length c = c .before .loop .inv .list .long
 
 returns : tie.Need-returns Inv-loop μ-loop
 returns c = let d = c .before .before .before .before .before in
-    rw (← listing-neighbours _ _ _ (d .pre .1 .0)) (listed-end _ _ _ _ _ _ (c .loop-test .left) (c .before .loop .inv))
+    rw (← listing-neighbours _ _ _ (d .pre .0 .counted)) (listed-end _ _ _ _ _ _ (c .loop-test .left) (c .before .loop .inv))
 
 pub write-neighbours-spec : {M : Type 1} → statement M
 write-neighbours-spec =

@@ -1,0 +1,139 @@
+-- What is said of reach and of sameness: the theory's bound at an accepted file, and that two accepted plans are the same exactly if
+-- their tag files are equal apart from the plan number.
+-- Assumes nothing.
+use Prim.Native.Nat.{ℕ, _<_, _≤_}
+use mathlib.Core.Bool.{Bool, true, false, cond}
+use mathlib.Core.Path.{_≡_, refl, sym, ap, _∙_}
+use mathlib.Core.Logic.{_↔_, ⊎-elim}
+use mathlib.Core.List.{List, [], _∷_, _++_}
+use native.Mathlib.Omega.{arith}
+use lib.ListN.{drop}
+use borrow.Author.Tests.{lt-ltb, eqb-true, eq-eqb}
+use Rattle.sequences.proofs.Tests.{truth, and-left, and-right, and-intro}
+use Rattle.interval_graph.specs.Tree.{component, depth, rank, lastRank}
+use Rattle.interval_graph.specs.Reach.{reach}
+use Rattle.interval_graph.specs.Numbers.{Numbers, numbersOf}
+use Rattle.interval_graph.proofs.Reach.{reach-bound}
+use Rattle.interval_graph.proofs.Sameness.{SameNumbers}
+use Rattle.wire.specs.LittleEndian.{bytes16}
+use Rattle.wire.specs.Question.{question, firstNo, positionQuestion}
+use Rattle.plan.specs.File.{windowCount}
+use Rattle.plan.specs.Overlap.{overlaps}
+use Rattle.plan.specs.Validation.{AcceptedPlan, validateAnswerOf}
+use Rattle.plan.proofs.Accepted.{accepted-validated}
+use Rattle.plan.proofs.Calls.{plan-accepted}
+use Rattle.plan.proofs.Overlap.{interval-order}
+use Rattle.tag.specs.declared.reader.Tag.{Tag}
+use Rattle.tag.specs.Fields.{tagOf, tagWith, tagBytes}
+use Rattle.tag.proofs.Fields.{tagOf-tagBytes}
+use Rattle.tag.proofs.TagFile.{tagFile-lookup}
+use Rattle.tree.specs.declared.answers.ReachAnswer.the-variants as ReachAnswer
+use Rattle.tree.specs.Tables.{numbersAt}
+use Rattle.tree.specs.Reach.{reachQuestions, reachAnswerOf}
+use Rattle.path.specs.declared.answers.SameAnswer.the-variants as SameAnswer
+use Rattle.path.specs.Sameness.{samePairs, sameOverlap, sameAnswerOf}
+use Rattle.path.proofs.Sameness.{pairs-iff-overlaps, same-iff-numbers, compared}
+use Rattle.demands.specs.EndToEnd.{tagAt}
+use Rattle.demands.specs.Calls.{ReachBounds, SameOverlap, EqualTags, SameAnswered, Sameness}
+
+-- For a window of an accepted plan the call answers with the theory's reach.
+reach-answered : (file : List ℕ) → AcceptedPlan file → (at : ℕ) → at < windowCount file → reachAnswerOf file at ≡ ReachAnswer.Reach (reach (windowCount file) (overlaps file) at)
+unfolding reachAnswerOf reachQuestions positionQuestion question firstNo
+reach-answered file ok at h =
+    sym (plan-accepted file _ ReachAnswer.Refused _ (validateAnswerOf file) refl _ _ (accepted-validated file ok))
+    ∙ rw (lt-ltb at (windowCount file) h)
+
+pub reach-bounds : ReachBounds
+reach-bounds file ok at bound h e u v k hu hv p q least =
+    let same : bound ≡ reach (windowCount file) (overlaps file) at = cc (reach-answered file ok at h) in
+    rw same (reach-bound (interval-order file ok) at u v k h hu hv p q least)
+
+-- The numbers with 0 for the plan number.
+unplanned : Numbers → Numbers
+unplanned n = record { plan = 0; component = n .component; depth = n .depth; rank = n .rank; last = n .last }
+
+-- The bytes after the plan number are the tag's but for the plan number.
+unplanned-bytes : (n : Numbers) → tagBytes (unplanned n) ≡ bytes16 0 ++ drop 2 (tagBytes n)
+unfolding unplanned tagBytes bytes16
+unplanned-bytes n = refl
+
+-- Equal bytes after the plan number are equal numbers but for the plan number.
+numbers-equal : (m n : Numbers) → drop 2 (tagBytes m) ≡ drop 2 (tagBytes n) → tagWith (unplanned m) ≡ tagWith (unplanned n)
+numbers-equal m n e =
+    sym (tagOf-tagBytes (unplanned m))
+    ∙ (ap tagOf (unplanned-bytes m ∙ (ap (λ (l : List ℕ). bytes16 0 ++ l) e ∙ sym (unplanned-bytes n))) ∙ tagOf-tagBytes (unplanned n))
+
+bytes-equal : (m n : Numbers) → m .component ≡ n .component → m .depth ≡ n .depth → m .rank ≡ n .rank → m .last ≡ n .last → drop 2 (tagBytes m) ≡ drop 2 (tagBytes n)
+unfolding tagBytes bytes16
+bytes-equal m n c d r l = rw (c, d, r, l)
+
+tag-bytes : (file : List ℕ) (v : ℕ) → v < windowCount file → tagAt file v ≡ tagBytes (numbersAt file v)
+unfolding tagAt
+tag-bytes file v h = tagFile-lookup (numbersAt file) (windowCount file) v h
+
+module _ (first second : List ℕ) (count : windowCount first ≡ windowCount second) where
+  -- Where the numbers agree, so do the bytes, and conversely.
+  tags-agree : SameNumbers (windowCount first) (overlaps first) (overlaps second) → (v : ℕ) → v < windowCount first → drop 2 (tagAt first v) ≡ drop 2 (tagAt second v)
+  unfolding numbersAt numbersOf
+  tags-agree s v h =
+      rw (tag-bytes first v h, tag-bytes second v (rw (← count) h))
+      (bytes-equal (numbersAt first v) (numbersAt second v) (s .components v h) (s .depths v h)
+      (s .ranks v h ∙ ap (λ n. rank n (overlaps second) v) count)
+      (s .lasts v h ∙ ap (λ n. lastRank n (overlaps second) v) count))
+
+  numbers-agree : ((v : ℕ) → v < windowCount first → drop 2 (tagAt first v) ≡ drop 2 (tagAt second v)) → SameNumbers (windowCount first) (overlaps first) (overlaps second)
+  unfolding numbersAt numbersOf tagWith unplanned
+  numbers-agree tags =
+      record {
+        components = λ v h. ap (λ (t : Tag). t .component) (same v h);
+        depths = λ v h. ap (λ (t : Tag). t .depth) (same v h);
+        ranks = λ v h. ap (λ (t : Tag). t .rank) (same v h) ∙ ap (λ n. rank n (overlaps second) v) (sym count);
+        lasts = λ v h. ap (λ (t : Tag). t .last) (same v h) ∙ ap (λ n. lastRank n (overlaps second) v) (sym count);
+      }
+    where
+      same : (v : ℕ) → v < windowCount first → tagWith (unplanned (numbersAt first v)) ≡ tagWith (unplanned (numbersAt second v))
+      same v h =
+          numbers-equal (numbersAt first v) (numbersAt second v)
+          (ap (drop 2) (sym (tag-bytes first v h)) ∙ (tags v h ∙ ap (drop 2) (tag-bytes second v (rw (← count) h))))
+
+-- The test that the call answers by says that the plans overlap alike.
+test-same : (first second : List ℕ) → (sameOverlap first second ≡ true) ↔ SameOverlap first second
+unfolding sameOverlap
+test-same first second = (
+  λ t.
+      record {
+        count = eqb-true _ _ (and-left _ _ t);
+        pairs = pairs-iff-overlaps _ _ _ .0 (and-right (lib.Dec.eqb (windowCount first) (windowCount second)) _ t);
+      },
+  λ s. and-intro _ _ (eq-eqb _ _ (s .count)) (pairs-iff-overlaps _ _ _ .1 (s .pairs)),
+)
+
+different-not-same : SameAnswer.Different ≡ SameAnswer.Same → ⊥
+different-not-same e = let z : _≡_ {A = ℕ} 0 1 = cc in omega arith
+
+module _ (first second : List ℕ) (answer : sameAnswerOf first second ≡ cond (sameOverlap first second) SameAnswer.Same SameAnswer.Different) where
+  same-answered : (sameAnswerOf first second ≡ SameAnswer.Same) ↔ SameOverlap first second
+  same-answered = (
+    λ e. ⊎-elim (λ t. test-same first second .0 t) (λ t. absurd (different-not-same (sym (rw t at answer) ∙ e))) (truth (sameOverlap first second)),
+    λ s. rw (test-same first second .1 s) at answer,
+  )
+
+  different-answered : (sameAnswerOf first second ≡ SameAnswer.Different) ↔ (SameOverlap first second → ⊥)
+  different-answered = (
+    λ e s. different-not-same (sym e ∙ same-answered .1 s),
+    λ other. ⊎-elim (λ t. absurd (other (test-same first second .0 t))) (λ t. rw t at answer) (truth (sameOverlap first second)),
+  )
+
+pub sameness : Sameness
+sameness first second ok ok′ =
+    let answer = compared first second ok ok′ in
+    record {
+      same = same-answered first second answer;
+      different = different-answered first second answer;
+      tags = (
+        λ s.
+            let numbers = same-iff-numbers first second ok ok′ .0 (test-same first second .1 s) in
+            record { count = numbers .0; tags = tags-agree first second (numbers .0) (numbers .1) },
+        λ t. test-same first second .0 (same-iff-numbers first second ok ok′ .1 (t .count, numbers-agree first second (t .count) (t .tags))),
+      );
+    }
