@@ -6,6 +6,7 @@ use Rattle.sequences.specs.Table.{overwritten}
 use Rattle.sequences.proofs.Table.{overwritten-holds}
 use Rattle.plan.specs.File.{planNumber}
 use Rattle.plan.proofs.Counted.{windows-few}
+use Rattle.forest.proofs.Parented.{covered-all, covered-three}
 use Rattle.minutes.specs.SingleTable.{afterTable}
 use Rattle.minutes.proofs.SingleTabled.{table-fills}
 use Rattle.tree.specs.Build.{afterBuild, afterTags}
@@ -46,20 +47,22 @@ returns-2 c = let asked = rw (
     let lasts = overwritten-holds _ _ _ _ (windows-few p) (both .1) in
     let levels = c .before .before .before .before .before .before .before .before .before .before .before .before .before .before .before .before
     .before .before .before .before .before .before .before .before .fill-levels .ensures in
-    let components = components-filled p parents _ _ _ (levels .1 .0) (omega
-    (arith, parents .long, rooms .components-room, rooms .depths-room, windows-few p)) in
-    let depths = depths-filled p parents _ _ _ (levels .1 .1) (omega (arith, parents .long, rooms .components-room, rooms .depths-room, windows-few p)) in
+    let components = components-filled p parents _ _ _ (levels .1 .0) (covered-three _ _ _ _ (windows-few p) (parents .long) (rooms .components-room)
+    (rooms .depths-room)) in
+    let depths = depths-filled p parents _ _ _ (levels .1 .1) (covered-three _ _ _ _ (windows-few p) (parents .long) (rooms .components-room)
+    (rooms .depths-room)) in
     let ranks = ranks-filled p parents _ _ _ (c .before .before .before .before .before .before .before .before .before .before .before .before
-    .before .before .before .before .before .fill-ranks .ensures) (omega (arith, parents .long, rooms .ranks-room, windows-few p)) in
+    .before .before .before .before .before .fill-ranks .ensures) (covered-all _ _ _ (windows-few p) (parents .long) (rooms .ranks-room)) in
     let ranking = overwritten-holds _ _ _ _ (rooms .ranks-room) ranks in
     let last-ranks = last-ranks-filled p lasts ranking _ _ _
-    (c .before .before .before .before .before .before .before .before .before .before .before .look-up .ensures) (omega
-    (arith, lasts .long, rooms .last-ranks-room, windows-few p)) in
+    (c .before .before .before .before .before .before .before .before .before .before .before .look-up .ensures) (covered-all _ _ _ (windows-few p)
+    (lasts .long) (rooms .last-ranks-room)) in
     let c-held = overwritten-holds _ _ _ _ (rooms .components-room) components in
     let d-held = overwritten-holds _ _ _ _ (rooms .depths-room) depths in
     let l-held = overwritten-holds _ _ _ _ (rooms .last-ranks-room) last-ranks in
     let number = c .before .before .before .before .before .before .before .before .read-u16 .ensures in
-    let counted = roots-counted p parents _ _ (levels .0) (omega (arith, parents .long, rooms .components-room, rooms .depths-room, windows-few p)) in
+    let counted = roots-counted p parents _ _ (levels .0) (covered-three _ _ _ _ (windows-few p) (parents .long) (rooms .components-room)
+    (rooms .depths-room)) in
     let tagged = c .before .before .write-tags .ensures ∙ ap (overwritten _) (tags-filled p _ number c-held d-held ranking l-held) in
     (table-build-filled _ _ _ _ _ _ _ _ asked _ _ _ e number counted, (both .0, (components, (depths, (ranks, (last-ranks, tagged))))))
 
@@ -160,14 +163,15 @@ write-tags-requires c κs = let asked = rw (
     let lasts = overwritten-holds _ _ _ _ (windows-few p) (both .1) in
     let levels = c .before .before .before .before .before .before .before .before .before .before .before .before .before .before .before .before
     .before .before .before .before .before .fill-levels .ensures in
-    let components = components-filled p parents _ _ _ (levels .1 .0) (omega
-    (arith, parents .long, rooms .components-room, rooms .depths-room, windows-few p)) in
-    let depths = depths-filled p parents _ _ _ (levels .1 .1) (omega (arith, parents .long, rooms .components-room, rooms .depths-room, windows-few p)) in
+    let components = components-filled p parents _ _ _ (levels .1 .0) (covered-three _ _ _ _ (windows-few p) (parents .long) (rooms .components-room)
+    (rooms .depths-room)) in
+    let depths = depths-filled p parents _ _ _ (levels .1 .1) (covered-three _ _ _ _ (windows-few p) (parents .long) (rooms .components-room)
+    (rooms .depths-room)) in
     let ranks = ranks-filled p parents _ _ _ (c .before .before .before .before .before .before .before .before .before .before .before .before
-    .before .before .fill-ranks .ensures) (omega (arith, parents .long, rooms .ranks-room, windows-few p)) in
+    .before .before .fill-ranks .ensures) (covered-all _ _ _ (windows-few p) (parents .long) (rooms .ranks-room)) in
     let ranking = overwritten-holds _ _ _ _ (rooms .ranks-room) ranks in
-    let last-ranks = last-ranks-filled p lasts ranking _ _ _ (c .before .before .before .before .before .before .before .before .look-up .ensures) (omega
-    (arith, lasts .long, rooms .last-ranks-room, windows-few p)) in
+    let last-ranks = last-ranks-filled p lasts ranking _ _ _ (c .before .before .before .before .before .before .before .before .look-up .ensures)
+    (covered-all _ _ _ (windows-few p) (lasts .long) (rooms .last-ranks-room)) in
     let c-held = overwritten-holds _ _ _ _ (rooms .components-room) components in
     let d-held = overwritten-holds _ _ _ _ (rooms .depths-room) depths in
     let l-held = overwritten-holds _ _ _ _ (rooms .last-ranks-room) last-ranks in

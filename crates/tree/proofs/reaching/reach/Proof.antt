@@ -6,6 +6,7 @@ use native.Mathlib.Omega.{arith}
 use Rattle.sequences.proofs.Table.{overwritten-holds}
 use Rattle.plan.specs.Validation.{greatestCount}
 use Rattle.plan.proofs.Counted.{windows-few}
+use Rattle.forest.proofs.Parented.{covered-three}
 use Rattle.minutes.proofs.SingleTabled.{tabled, table-refuses}
 use Rattle.tree.proofs.Built.{components-filled, depths-filled}
 use Rattle.tree.proofs.Reached.{reach-refused, reach-beyond, reach-found, reach-depth, reach-fits}
@@ -62,9 +63,9 @@ run-end-requires c κs = let t = tabled _ _ _ _ _ _
     (c .before .before .before .before .before .before .before .before .before .before .before .before .parent-table .ensures .1) in
     let few = windows-few (t .plan) in
     let components = overwritten-holds _ _ _ _ few (components-filled (t .plan) (t .held) _ _ _ (c .before .before .before .fill-levels .ensures .1 .0)
-    (omega (arith, t .held .long))) in
-    let depths = overwritten-holds _ _ _ _ few (depths-filled (t .plan) (t .held) _ _ _ (c .before .before .before .fill-levels .ensures .1 .1) (omega
-    (arith, t .held .long))) in
+    (covered-three _ _ _ _ few (t .held .long) few few)) in
+    let depths = overwritten-holds _ _ _ _ few (depths-filled (t .plan) (t .held) _ _ _ (c .before .before .before .fill-levels .ensures .1 .1)
+    (covered-three _ _ _ _ few (t .held .long) few few)) in
     (components .long, c .before .before .before .before .before .before .before .if1 .left)
 
 mul-found : tie.Need-mul-found
@@ -93,9 +94,9 @@ add-found c = let t = tabled _ _ _ _ _ _ (c .before .before .before .before .bef
     (c .before .before .before .before .before .before .before .before .before .before .before .before .before .parent-table .ensures .1) in
     let few = windows-few (t .plan) in
     let components = overwritten-holds _ _ _ _ few (components-filled (t .plan) (t .held) _ _ _
-    (c .before .before .before .before .fill-levels .ensures .1 .0) (omega (arith, t .held .long))) in
+    (c .before .before .before .before .fill-levels .ensures .1 .0) (covered-three _ _ _ _ few (t .held .long) few few)) in
     let depths = overwritten-holds _ _ _ _ few (depths-filled (t .plan) (t .held) _ _ _ (c .before .before .before .before .fill-levels .ensures .1 .1)
-    (omega (arith, t .held .long))) in
+    (covered-three _ _ _ _ few (t .held .long) few few)) in
     omega (arith, reach-fits (t .plan) components depths _ _ (c .run-end .ensures))
 
 returns-3 : tie.Need-returns-3
@@ -104,9 +105,9 @@ returns-3 c = let t = tabled _ _ _ _ _ _ (c .before .before .before .before .bef
     (c .before .before .before .before .before .before .before .before .before .before .before .before .before .parent-table .ensures .1) in
     let few = windows-few (t .plan) in
     let components = overwritten-holds _ _ _ _ few (components-filled (t .plan) (t .held) _ _ _
-    (c .before .before .before .before .fill-levels .ensures .1 .0) (omega (arith, t .held .long))) in
+    (c .before .before .before .before .fill-levels .ensures .1 .0) (covered-three _ _ _ _ few (t .held .long) few few)) in
     let depths = overwritten-holds _ _ _ _ few (depths-filled (t .plan) (t .held) _ _ _ (c .before .before .before .before .fill-levels .ensures .1 .1)
-    (omega (arith, t .held .long))) in
+    (covered-three _ _ _ _ few (t .held .long) few few)) in
     reach-found (t .plan) _ _ (c .before .before .before .before .before .before .before .before .if1 .left) (reach-depth (t .plan) components depths _ _
     (c .run-end .ensures))
 
