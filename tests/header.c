@@ -1,4 +1,5 @@
-/* Every call through include/poddreshi.h, on plan 12: nothing else holds the header's declarations to the library. */
+/* Every call through include/poddreshi.h, on plan 12, and the figures that it names: nothing else holds the header's declarations
+ * to the library. */
 #include <stdio.h>
 #include <stdlib.h>
 #include <string.h>
@@ -28,7 +29,7 @@ static const uint16_t numbers[7][5] = {{0, 0, 0, 5, 4}, {0, 0, 1, 0, 3}, {0, 0, 
 
 static uint8_t file[60];
 static uint16_t parents[7], components[7], depths[7], ranks[7], last_ranks[7], out[7];
-static uint8_t tags[70], tag[10];
+static uint8_t tags[70], alone[70], tag[10];
 
 static void check_plan(void) {
     static const uint16_t chain[] = {5, 4, 2, 3}, near[] = {0, 1, 3, 4};
@@ -62,8 +63,30 @@ static void check_build(void) {
         check(is(poddreshi_lookup(tags, 70, (size_t)i, &offset), PODDRESHI_FOUND, 0, 0, 0), "lookup");
         check(offset == 10 * (size_t)i && memcmp(tags + offset, tag, 10) == 0, "the tag that is looked up");
     }
+    check(is(poddreshi_tags(file, sizeof file, alone, 70), PODDRESHI_BUILT, 12, 7, 2), "tags");
+    check(memcmp(alone, tags, sizeof tags) == 0, "the tag file alone");
+    check(refused(poddreshi_tags(file, sizeof file, alone, 69), 8, 0, 0), "a short tag file");
     check(is(poddreshi_pair(tags + 10, 10, tags + 50, 10), PODDRESHI_HANDOVERS, 3, 0, 0), "pair");
     check(refused(poddreshi_pair(tags, 10, tags, 9), 9, 1, 0), "a short second tag");
+    check(is(poddreshi_pair_at(tags, 70, 1, 5), PODDRESHI_HANDOVERS, 3, 0, 0), "pair at two positions");
+    check(is(poddreshi_pair_at(tags, 70, 6, 5), PODDRESHI_NO_CHAIN, 0, 0, 0), "no chain of two positions");
+    check(refused(poddreshi_pair_at(tags, 70, 0, 7), 7, 1, 0), "a second position past the last tag");
+}
+
+/* The figures are where the library's answers change. */
+static void check_figures(void) {
+    static uint8_t longest[PODDRESHI_FILE_LIMIT];
+    unsigned n = PODDRESHI_WINDOWS_LIMIT, i;
+
+    check(is(poddreshi_write(12, PODDRESHI_FIELD_LIMIT, 0, 0, 0, tag, PODDRESHI_TAG_LENGTH), PODDRESHI_WRITTEN, 0, 0, 0), "a tag");
+    check(refused(poddreshi_write(12, 0, 0, 0, 0, tag, PODDRESHI_TAG_LENGTH - 1), 8, 0, 0), "the tag's length");
+    check(refused(poddreshi_write(12, PODDRESHI_FIELD_LIMIT + 1, 0, 0, 0, tag, 10), 10, 0, 0), "the field's limit");
+    longest[2] = n % 256;
+    longest[3] = n / 256;
+    for (i = 0; i < n; i++) longest[8 + 8 * i] = 1;
+    check(is(poddreshi_validate(longest, sizeof longest), PODDRESHI_ACCEPTED, 0, n, 0), "the longest file");
+    longest[2] = (n + 1) % 256;
+    check(refused(poddreshi_validate(longest, sizeof longest), 2, 0, 0), "the limit of windows");
 }
 
 int main(void) {
@@ -77,8 +100,9 @@ int main(void) {
     }
     check_plan();
     check_build();
+    check_figures();
     file[4 + 8 * 3] = 1;
     check(refused(poddreshi_validate(file, sizeof file), 6, 0, 3), "a falling offset");
-    puts("header: every call on plan 12 as it should be");
+    puts("header: every call on plan 12 and every figure as it should be");
     return 0;
 }

@@ -1,27 +1,13 @@
 //! The C interface, each call wrapped so that nothing lent can be written to unseen: every table stands inside a larger
 //! buffer of random content, of which all but the table's first entries must stay.
-use crate::oracle::Refusal;
+use crate::answers::{Answer, Refusal};
+use crate::oracle::Columns;
 use crate::random::Random;
 use interface::*;
+use std::fmt::{Debug, Display};
 
 #[path = "../../include/poddreshi.rs"]
 mod interface;
-
-#[derive(Clone, Copy, PartialEq, Eq, Debug)]
-pub enum Answer {
-    Refused(Refusal),
-    Accepted { plan: u16, windows: u16 },
-    Built { plan: u16, windows: u16, components: u16 },
-    Reach(u16),
-    Chain(u16),
-    NoChain,
-    Neighbours(u16),
-    Same,
-    Different,
-    Handovers(u16),
-    Found,
-    Written,
-}
 
 fn unpack(answer: u64) -> Answer {
     let field = |i: u32| (answer >> (16 * i)) as u16;
@@ -53,7 +39,7 @@ pub struct Lent<T> {
     room: usize,
 }
 
-impl<T: Copy + PartialEq + std::fmt::Debug> Lent<T> {
+impl<T: Copy + PartialEq + Debug> Lent<T> {
     fn new(room: usize, fill: &mut dyn FnMut() -> T) -> Lent<T> {
         let before: Vec<T> = (0..room + 2 * GUARD).map(|_| fill()).collect();
         Lent { now: before.clone(), before, room }
@@ -62,7 +48,7 @@ impl<T: Copy + PartialEq + std::fmt::Debug> Lent<T> {
         self.now[GUARD..].as_mut_ptr()
     }
     /// The first entries are those given, and all others of the buffer are as they were.
-    pub fn holds(&self, what: &str, written: &[T]) {
+    pub fn holds(&self, what: impl Display, written: &[T]) {
         assert!(written.len() <= self.room, "{what}: more is due than there is room for");
         let (start, end) = (GUARD, GUARD + written.len());
         assert_eq!(&self.now[start..end], written, "{what}: entries written");
@@ -93,6 +79,14 @@ impl Tables {
     pub fn new(rooms: [usize; 5], tags: usize, random: &mut Random) -> Tables {
         Tables { tables: rooms.map(|room| words(room, random)), tags: bytes(tags, random) }
     }
+
+    pub fn holds(&self, what: impl Display, written: &Columns) {
+        let names = ["parents", "components", "depths", "ranks", "last ranks"];
+        for ((table, name), column) in self.tables.iter().zip(names).zip(&written.tables) {
+            table.holds(format_args!("{what}, {name}"), column);
+        }
+        self.tags.holds(format_args!("{what}, tags"), &written.tags);
+    }
 }
 
 pub fn build(file: &[u8], lent: &mut Tables) -> Answer {
@@ -108,6 +102,10 @@ pub fn build(file: &[u8], lent: &mut Tables) -> Answer {
             lent.tags.pointer(), lent.tags.room,
         )
     })
+}
+
+pub fn tags(file: &[u8], out: &mut Lent<u8>) -> Answer {
+    unpack(unsafe { poddreshi_tags(file.as_ptr(), file.len(), out.pointer(), out.room) })
 }
 
 pub fn reach(file: &[u8], at: usize) -> Answer {
@@ -128,6 +126,10 @@ pub fn same(first: &[u8], second: &[u8]) -> Answer {
 
 pub fn pair(first: &[u8], second: &[u8]) -> Answer {
     unpack(unsafe { poddreshi_pair(first.as_ptr(), first.len(), second.as_ptr(), second.len()) })
+}
+
+pub fn pair_at(tags: &[u8], first: usize, second: usize) -> Answer {
+    unpack(unsafe { poddreshi_pair_at(tags.as_ptr(), tags.len(), first, second) })
 }
 
 pub fn lookup(tags: &[u8], at: usize, offset: &mut usize) -> Answer {

@@ -1,13 +1,20 @@
-//! The library through its C interface beside an implementation of different origin (`oracle`), on every overlap pattern of
-//! few windows and on random plans, damaged files and damaged tags.
+//! The library through its C interface beside an implementation of different origin (`oracle`), on paper 01's cases by name,
+//! on every overlap pattern of few windows and on random plans, damaged files and damaged tags.
 //!
-//!   differential [--long] [--seed N] [--case N]
+//!   differential [--long] [--seed N] [--case N] [--listing PROGRAM]
 //!
-//! A run is decided by its seed. A failure names the seed and the case, and `--seed N --case N` runs that one again.
+//! A run is decided by its seed. A failure names the seed and the case, and `--seed N --case N` runs that one again. The
+//! listing program, where it is given, is run on paper 01's cases at the end.
+mod answers;
+mod both;
 mod calls;
 mod compare;
+mod expected;
+mod listing;
 mod oracle;
+mod paper;
 mod random;
+mod refusals;
 mod shapes;
 
 use compare::{Comparison, Depth};
@@ -23,6 +30,7 @@ struct Run {
     long: bool,
     seed: u64,
     only: Option<u64>,
+    listing: Option<String>,
     cases: u64,
     calls: u64,
     started: Instant,
@@ -52,6 +60,38 @@ impl Run {
     }
 }
 
+/// Paper 01's own cases, by name.
+fn paper_cases(run: &mut Run) {
+    for case in paper::cases() {
+        run.case(&format!("paper 01, {}", case.name), &mut |comparison| case.hold(comparison));
+    }
+    run.report("paper 01, by name");
+}
+
+/// The same through the listing program; among them are inputs longer than its buffer.
+fn listed_cases(run: &mut Run) {
+    let Some(program) = run.listing.clone() else {
+        println!("listing: not tried, since no --listing PROGRAM was given");
+        return;
+    };
+    for case in paper::cases() {
+        run.case(&format!("listing, {}", case.name), &mut |_| listing::hold(&program, &case.file, &case.printed()));
+    }
+    run.report("listing");
+}
+
+/// Every refusal of every call, alone and two at a time.
+fn every_refusal(run: &mut Run) {
+    run.case("faulty files", &mut refusals::faulty_files);
+    run.case("two faulty files", &mut refusals::two_files);
+    run.case("positions and rooms", &mut refusals::positions_and_rooms);
+    run.case("rooms of build", &mut refusals::rooms_of_build);
+    run.case("two faulty tags", &mut refusals::two_tags);
+    run.case("tag files", &mut refusals::tag_files);
+    run.case("a tag to be written", &mut refusals::written_tags);
+    run.report("refusals");
+}
+
 /// Every overlap pattern, with every pair of positions in both orders, and every two patterns for sameness.
 fn every_pattern(run: &mut Run) {
     for n in 0..=run.times(6, 8) as usize {
@@ -67,10 +107,10 @@ fn every_pattern(run: &mut Run) {
         for first in &one {
             run.case("a pattern beside all others", &mut |comparison| {
                 for second in one.iter().chain(more.iter().take(1)) {
-                    comparison.same(&file_of(1, first), &file_of(2, second));
+                    comparison.sameness(&file_of(1, first), &file_of(2, second));
                 }
                 let stretched: Vec<(u32, u32)> = first.iter().map(|w| (7 * w.0 + 5, 7 * w.1)).collect();
-                comparison.same(&file_of(1, first), &file_of(1, &stretched));
+                comparison.sameness(&file_of(1, first), &file_of(1, &stretched));
             });
         }
     }
@@ -92,7 +132,7 @@ fn small_plans(run: &mut Run) {
                     other[at].1 = comparison.random.between(1, 12) as u32;
                     other[at].1 = other[at].1.min(10_000_000 - other[at].0);
                 }
-                comparison.same(&file_of(1, &plan), &file_of(2, &other));
+                comparison.sameness(&file_of(1, &plan), &file_of(2, &other));
             });
         }
     }
@@ -151,7 +191,7 @@ fn damaged_files(run: &mut Run) {
     run.report("damaged files");
 }
 
-/// The edges of n: 2,048 windows, 2,049 in a long and in a short file.
+/// The edges of n: 2,048 windows, 2,049 in a long and in a short file; two plans of 2,048.
 fn edges_of_n(run: &mut Run) {
     run.case("n at its limit", &mut |comparison| {
         for n in [2047, 2048, 2049] {
@@ -162,6 +202,13 @@ fn edges_of_n(run: &mut Run) {
         let mut last = vec![(0, 5); 2048];
         last[2047] = (0, 0);
         comparison.file(&file_of(3, &last), Depth::Sampled);
+    });
+    run.case("2,048 windows, the same but for the last", &mut |comparison| {
+        let apart: Vec<(u32, u32)> = (0..2048).map(|v| (v, 1)).collect();
+        let mut joined = apart.clone();
+        joined[2046].1 = 2;
+        comparison.sameness(&file_of(3, &apart), &file_of(4, &apart));
+        comparison.sameness(&file_of(3, &apart), &file_of(3, &joined));
     });
 }
 
@@ -191,25 +238,26 @@ fn any_tags(run: &mut Run) {
                 comparison.tags(&bytes[0], &bytes[1]);
                 comparison.tags(&bytes[0], &bytes[0]);
                 let room = comparison.random.between(7, 14) as usize;
-                comparison.write(tags[0], room);
+                comparison.write(tags[0], room).agree(format_args!("write of {:?} into {room} bytes", tags[0]));
             }
             let length = comparison.random.below(64) as usize;
-            comparison.lookup(&vec![7; length], length / 10);
+            comparison.lookups(&vec![7; length]);
         });
     }
     run.report("tags");
 }
 
 fn main() {
-    let mut run = Run { long: false, seed: 20_240_625, only: None, cases: 0, calls: 0, started: Instant::now() };
+    let mut run = Run { long: false, seed: 20_240_625, only: None, listing: None, cases: 0, calls: 0, started: Instant::now() };
     let mut words = std::env::args().skip(1);
     while let Some(word) = words.next() {
-        let mut number = || words.next().and_then(|n| n.parse().ok()).expect("a number");
+        let mut next = || words.next().expect("a word more");
         match word.as_str() {
             "--long" => run.long = true,
-            "--seed" => run.seed = number(),
-            "--case" => run.only = Some(number()),
-            _ => panic!("usage: differential [--long] [--seed N] [--case N]"),
+            "--seed" => run.seed = next().parse().expect("a number"),
+            "--case" => run.only = Some(next().parse().expect("a number")),
+            "--listing" => run.listing = Some(next()),
+            _ => panic!("usage: differential [--long] [--seed N] [--case N] [--listing PROGRAM]"),
         }
     }
     let seed = run.seed;
@@ -218,12 +266,15 @@ fn main() {
         usual(info);
         eprintln!("differential FAILED, seed {seed}: {}", AT.lock().unwrap_or_else(|at| at.into_inner()));
     }));
+    paper_cases(&mut run);
+    every_refusal(&mut run);
     every_pattern(&mut run);
     edges_of_n(&mut run);
     small_plans(&mut run);
     large_plans(&mut run);
     damaged_files(&mut run);
     any_tags(&mut run);
+    listed_cases(&mut run);
     let seconds = run.started.elapsed().as_secs_f64();
     println!("differential: {} cases, {} calls, no difference, seed {seed}, {seconds:.1} s", run.cases, run.calls);
 }

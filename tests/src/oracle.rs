@@ -1,17 +1,7 @@
 //! What paper 01 says, by brute force: windows as sets of minutes, overlap as a minute that both sets have, least numbers
 //! of handovers by breadth-first search, post-order by recursion. Nothing here is taken from the library: where it has a
 //! formula, this has a search.
-
-#[derive(Clone, Copy, PartialEq, Eq, Debug)]
-pub struct Refusal {
-    pub number: u16,
-    pub input: u16,
-    pub position: u16,
-}
-
-pub fn refusal(number: u16, input: u16, position: usize) -> Refusal {
-    Refusal { number, input, position: position as u16 }
-}
+use crate::answers::{refusal, Answer, Refusal};
 
 fn number(bytes: &[u8]) -> u64 {
     bytes.iter().rev().fold(0, |high, &byte| high * 256 + byte as u64)
@@ -120,6 +110,13 @@ pub struct Tree {
     pub last: Vec<usize>,
 }
 
+/// What build writes.
+#[derive(Default, PartialEq, Debug)]
+pub struct Columns {
+    pub tables: [Vec<u16>; 5],
+    pub tags: Vec<u8>,
+}
+
 /// Children in order of position, each with all under it, and then the parent.
 fn post_order(v: usize, children: &[Vec<usize>], out: &mut Vec<usize>) {
     for &child in &children[v] {
@@ -134,9 +131,10 @@ impl Tree {
         let minutes = minutes(plan);
         let mut overlaps = vec![Set::empty(n); n];
         for u in 0..n {
-            for v in 0..n {
-                if u != v && minutes[u].shares_with(&minutes[v]) {
+            for v in u + 1..n {
+                if minutes[u].shares_with(&minutes[v]) {
                     overlaps[u].add(v);
+                    overlaps[v].add(u);
                 }
             }
         }
@@ -169,9 +167,35 @@ impl Tree {
         [self.plan, fields[0] as u16, fields[1] as u16, fields[2] as u16, fields[3] as u16]
     }
 
+    pub fn built(&self) -> Answer {
+        Answer::Built { plan: self.plan, windows: self.n as u16, components: self.components as u16 }
+    }
+
+    /// The five tables in the paper's order, and the tag file.
+    pub fn columns(&self) -> Columns {
+        let column = |f: &dyn Fn(usize) -> usize| (0..self.n).map(|v| f(v) as u16).collect::<Vec<u16>>();
+        let tables = [
+            column(&|v| self.parent[v]),
+            column(&|v| self.component[v]),
+            column(&|v| self.depth[v]),
+            column(&|v| self.rank[v]),
+            column(&|v| self.rank[self.last[v]]),
+        ];
+        Columns { tables, tags: (0..self.n).flat_map(|v| tag_bytes(self.tag(v))).collect() }
+    }
+
     pub fn reach(&self, v: usize) -> usize {
         let last = (0..self.n).rev().find(|&w| self.component[w] == self.component[v]).unwrap();
         self.depth[last] + 1
+    }
+
+    /// Rising, without the window itself.
+    pub fn neighbours(&self, v: usize) -> Vec<u16> {
+        self.overlaps[v].members().iter().map(|&u| u as u16).collect()
+    }
+
+    pub fn same_as(&self, other: &Tree) -> bool {
+        self.n == other.n && self.overlaps == other.overlaps
     }
 
     /// The least number of handovers from one window to each, by breadth-first search; none where no chain joins them.
@@ -228,13 +252,6 @@ impl Tree {
     }
 }
 
-#[derive(Clone, Copy, PartialEq, Eq, Debug)]
-pub enum Pair {
-    Handovers(u16),
-    NoChain,
-    Refused(Refusal),
-}
-
 pub fn tag_bytes(tag: [u16; 5]) -> Vec<u8> {
     tag.iter().flat_map(|x| [(x & 255) as u8, (x >> 8) as u8]).collect()
 }
@@ -255,28 +272,22 @@ fn read_tag(bytes: &[u8], input: u16) -> Result<[i32; 5], Refusal> {
 }
 
 /// The rule on any two byte strings, in the paper's order. (Of the tags of a plan the answer is held against the search.)
-pub fn pair(first: &[u8], second: &[u8]) -> Pair {
-    let a = match read_tag(first, 0) {
-        Ok(tag) => tag,
-        Err(no) => return Pair::Refused(no),
-    };
-    let b = match read_tag(second, 1) {
-        Ok(tag) => tag,
-        Err(no) => return Pair::Refused(no),
-    };
+pub fn pair(first: &[u8], second: &[u8]) -> Result<Answer, Refusal> {
+    let a = read_tag(first, 0)?;
+    let b = read_tag(second, 1)?;
     let [plan_a, component_a, depth_a, rank_a, _] = a;
     let [plan_b, component_b, depth_b, rank_b, _] = b;
     if plan_a != plan_b {
-        return Pair::Refused(refusal(11, 1, 0));
+        return Err(refusal(11, 1, 0));
     }
     if component_a == component_b && rank_a == rank_b && a != b {
-        return Pair::Refused(refusal(12, 1, 0));
+        return Err(refusal(12, 1, 0));
     }
     if a == b {
-        return Pair::Handovers(0);
+        return Ok(Answer::Handovers(0));
     }
     if component_a != component_b {
-        return Pair::NoChain;
+        return Ok(Answer::NoChain);
     }
     // "u is the tag with smaller depth, or smaller rank at equal depth"
     let (u, v) = if (depth_a, rank_a) < (depth_b, rank_b) { (a, b) } else { (b, a) };
@@ -287,5 +298,5 @@ pub fn pair(first: &[u8], second: &[u8]) -> Pair {
         false if rank_v <= last_u && last_u < rank_u => d,
         false => d + 1,
     };
-    Pair::Handovers(count as u16)
+    Ok(Answer::Handovers(count as u16))
 }

@@ -25,9 +25,9 @@ use Rattle.tag.proofs.TagFile.{part-refused}
 use Rattle.tag.specs.Pairing.{answerOf, pairAnswerOf, pairAtAnswerOf}
 use Rattle.tree.specs.declared.answers.BuildAnswer.the-variants as BuildAnswer
 use Rattle.tree.specs.declared.answers.ReachAnswer.the-variants as ReachAnswer
-use Rattle.tree.specs.declared.answers.TableAnswer.the-variants as TableAnswer
+use Rattle.minutes.specs.declared.answers.TableAnswer.the-variants as TableAnswer
 use Rattle.tree.specs.Build.{buildAnswerOf, tagsAnswerOf, afterBuild, afterTags}
-use Rattle.tree.specs.SingleTable.{tableAnswerOf, afterTable}
+use Rattle.minutes.specs.SingleTable.{tableAnswerOf, afterTable}
 use Rattle.tree.specs.Reach.{reachAnswerOf}
 use Rattle.path.specs.declared.answers.ChainAnswer.the-variants as ChainAnswer
 use Rattle.path.specs.declared.answers.NeighboursAnswer.the-variants as NeighboursAnswer

@@ -25,7 +25,8 @@ use Rattle.tag.proofs.Writing.{tagBytes-read, written-reads-back, read-tagBytes
 use Rattle.tag.proofs.TagFile.{tagFile-lookup}
 use Rattle.tree.specs.declared.answers.BuildAnswer.{BuildAnswer}
 use Rattle.tree.specs.declared.answers.BuildAnswer.the-variants as BuildAnswer
-use Rattle.tree.specs.Tables.{parentOf, componentOf, depthOf, rankOf, lastRankOf, componentCount, numbersAt}
+use Rattle.minutes.specs.Tables.{parentOf}
+use Rattle.tree.specs.Tables.{componentOf, depthOf, rankOf, lastRankOf, componentCount, numbersAt}
 use Rattle.tree.specs.Build.{tablesFit, buildAnswerOf, afterBuild, afterTags}
 use Rattle.tree.proofs.Built.{build-built}
 use Rattle.demands.specs.EndToEnd.{tagAt}

@@ -21,10 +21,10 @@ use Rattle.tag.specs.Writing.{writeQuestions, writeAnswerOf, afterWrite}
 use Rattle.tag.specs.TagFile.{lookupQuestions, lookupAnswerOf, lookupPart}
 use Rattle.tag.specs.Pairing.{pairQuestions, pairAnswerOf, pairAtQuestions, pairAtAnswerOf}
 use Rattle.tree.specs.declared.answers.BuildAnswer.the-variants as BuildAnswer
-use Rattle.tree.specs.declared.answers.TableAnswer.the-variants as TableAnswer
+use Rattle.minutes.specs.declared.answers.TableAnswer.the-variants as TableAnswer
 use Rattle.tree.specs.declared.answers.ReachAnswer.the-variants as ReachAnswer
 use Rattle.tree.specs.Build.{buildQuestions, buildAnswerOf, tagsQuestions, tagsAnswerOf, afterBuild, afterTags}
-use Rattle.tree.specs.SingleTable.{tableQuestions, tableAnswerOf, afterTable}
+use Rattle.minutes.specs.SingleTable.{tableQuestions, tableAnswerOf, afterTable}
 use Rattle.tree.specs.Reach.{reachQuestions, reachAnswerOf}
 use Rattle.path.specs.declared.answers.ChainAnswer.the-variants as ChainAnswer
 use Rattle.path.specs.declared.answers.NeighboursAnswer.the-variants as NeighboursAnswer

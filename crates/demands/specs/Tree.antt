@@ -20,7 +20,8 @@ use Rattle.tag.specs.Writing.{writeAnswerOf, afterWrite}
 use Rattle.tag.specs.TagFile.{tagFile}
 use Rattle.tree.specs.declared.answers.BuildAnswer.{BuildAnswer}
 use Rattle.tree.specs.declared.answers.BuildAnswer.the-variants as BuildAnswer
-use Rattle.tree.specs.Tables.{parentOf, componentOf, depthOf, rankOf, lastRankOf, componentCount, numbersAt}
+use Rattle.minutes.specs.Tables.{parentOf}
+use Rattle.tree.specs.Tables.{componentOf, depthOf, rankOf, lastRankOf, componentCount, numbersAt}
 use Rattle.tree.specs.Build.{tablesFit, buildAnswerOf, afterBuild, afterTags}
 use Rattle.demands.specs.EndToEnd.{tagAt}
 

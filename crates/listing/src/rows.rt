@@ -18,11 +18,13 @@ fn end_line() {
 }
 
 // One row: the position, and its entry in each of the five tables.
-fn print_row(position: u16, tables: [u16; 5]) {
+fn print_row(position: u16, row: [u16; 5]) {
     print_first(position);
-    for at in 0..5 {
-        print_field(tables[at]);
-    }
+    print_field(row[0]);
+    print_field(row[1]);
+    print_field(row[2]);
+    print_field(row[3]);
+    print_field(row[4]);
     end_line();
 }
 

@@ -18,8 +18,8 @@ use Rattle.plan.specs.Validation.{validateAnswerOf}
 use Rattle.plan.specs.AcceptedWindows.{AcceptedWindows}
 use Rattle.plan.proofs.Accepted.{accepted-validated}
 use Rattle.plan.proofs.Calls.{plan-first}
-use Rattle.tree.specs.Tables.{parentOf}
-use Rattle.tree.proofs.SingleTabled.{Tabled}
+use Rattle.minutes.specs.Tables.{parentOf}
+use Rattle.minutes.proofs.SingleTabled.{Tabled}
 use Rattle.path.specs.declared.answers.ChainAnswer.{ChainAnswer}
 use Rattle.path.specs.declared.answers.ChainAnswer.the-variants as ChainAnswer
 use Rattle.path.specs.Chain.{chainBetween, chainQuestions, chainFound, chainAnswerOf, afterChain}

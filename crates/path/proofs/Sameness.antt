@@ -28,8 +28,8 @@ use Rattle.plan.proofs.Accepted.{accepted-validated}
 use Rattle.plan.proofs.Overlap.{interval-order}
 use Rattle.plan.proofs.Calls.{plan-first, plan-second}
 use Rattle.plan.proofs.Counted.{windows-order}
-use Rattle.tree.specs.Tables.{lastOf}
-use Rattle.tree.proofs.SingleTabled.{Tabled}
+use Rattle.minutes.specs.Tables.{lastOf}
+use Rattle.minutes.proofs.SingleTabled.{Tabled}
 use Rattle.path.specs.declared.answers.SameAnswer.the-variants as SameAnswer
 use Rattle.path.specs.Sameness.{samePairs, sameOverlap, sameQuestions, sameAnswerOf}
 

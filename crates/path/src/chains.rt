@@ -2,8 +2,8 @@
 use crate::answers::ChainAnswer;
 use crate::walk::steps_before;
 use crate::walk::write_walk;
+use minutes::TableAnswer;
 use plan::GREATEST_COUNT;
-use tree::TableAnswer;
 use wire::Asked;
 use wire::Refusal;
 ghost use mathlib.Core.Path.{_≡_};
@@ -45,7 +45,7 @@ pub fn chain(file: &[u8], first: usize, second: usize, out: &mut [u16]) -> Chain
     ensures { λ r. ⌜ now (out .exit) ≡ afterChain r (chainBetween (now (file .entry)) first second) (now (out .entry)) ⌝ }
 {
     let mut parents = [0; GREATEST_COUNT];
-    let windows = match tree::parent_table(file, &mut parents) {
+    let windows = match minutes::parent_table(file, &mut parents) {
         TableAnswer::Filled { windows } => windows as usize,
         TableAnswer::Refused(refusal) => return ChainAnswer::Refused(refusal),
     };

@@ -1,8 +1,8 @@
 // Whether two plans are the same. The pairs that overlap are the same exactly if every window's last is, so the plans'
 // tables of lasts are compared, and no pairs.
 use crate::answers::SameAnswer;
+use minutes::TableAnswer;
 use plan::GREATEST_COUNT;
-use tree::TableAnswer;
 ghost use mathlib.Core.Path.{_≡_};
 ghost use Prim.Native.Nat.{_≤_};
 ghost use lib.ListN.{length, getD};
@@ -30,12 +30,12 @@ pub fn same(first: &[u8], second: &[u8]) -> SameAnswer
     ensures { λ r. ⌜ r ≡ sameAnswerOf (now (first .entry)) (now (second .entry)) ⌝ }
 {
     let mut lasts = [0; GREATEST_COUNT];
-    let windows = match tree::last_table(first, &mut lasts) {
+    let windows = match minutes::last_table(first, &mut lasts) {
         TableAnswer::Filled { windows } => windows,
         TableAnswer::Refused(refusal) => return SameAnswer::Refused(refusal),
     };
     let mut others = [0; GREATEST_COUNT];
-    let count = match tree::last_table(second, &mut others) {
+    let count = match minutes::last_table(second, &mut others) {
         TableAnswer::Filled { windows } => windows,
         TableAnswer::Refused(refusal) => return SameAnswer::Refused(refusal.from(1)),
     };

@@ -5,14 +5,12 @@ use mathlib.Core.Path.{_≡_, refl, sym, _∙_}
 use native.Mathlib.Omega.{arith}
 use Rattle.wire.proofs.Question.{passed-within}
 use Rattle.plan.specs.Validation.{greatestCount}
-use Rattle.tree.proofs.SingleTabled.{tabled, table-refuses}
+use Rattle.minutes.proofs.SingleTabled.{tabled, table-refuses}
 use Rattle.path.specs.Chain.{afterChain}
 use Rattle.path.proofs.Chaining.{parented, chain-refused, chain-past, chain-asked, chain-asked-turned}
 use borrow.Author.Needs.{needs}
 use Rattle.path.proofs.chains.chain.Statement.{statement}
 use Rattle.path.proofs.chains.chain.Tie as tie
-use Rattle.tree.proofs.parent_table.Reads as parent-table-reads
-use Rattle.wire.proofs.ask_positions.Reads as ask-positions-reads
 
 slice-aggregate-parent-table : tie.Need-slice-aggregate-parent-table
 slice-aggregate-parent-table c = search needs
@@ -44,7 +42,7 @@ unfolding afterChain
 returns-2 c = let a = c .before .before .before in
     let d = a .before .before in
     let filled = d .before .before .before .parent-table .ensures in
-    let t = tabled _ _ _ _ _ _ (omega arith) (filled .0) (d .windows .given .1) (filled .1) in
+    let t = tabled _ _ _ _ _ _ (filled .0) (d .windows .given .1) (filled .1) in
     (chain-past _ _ _ _ (t .plan) _ (a .ask-positions .ensures) _ (c .before .asked .given .1), refl)
 
 enum-told : tie.Need-enum-told
@@ -57,7 +55,7 @@ write-between-requires : tie.Need-write-between-requires
 write-between-requires c κs = let a = c .before .before .before .before .before in
     let d = a .before .before in
     let filled = d .before .before .before .parent-table .ensures in
-    let t = tabled _ _ _ _ _ _ (omega arith) (filled .0) (d .windows .given .1) (filled .1) in
+    let t = tabled _ _ _ _ _ _ (filled .0) (d .windows .given .1) (filled .1) in
     let within = passed-within _ _ _ (sym (c .before .before .before .enum-told .given .1) ∙ a .ask-positions .ensures) in
     (parented t, (omega (arith, c .before .before .if1 .taken), omega (arith, within, t .plan .counted)))
 
@@ -69,7 +67,7 @@ returns-3 c = let b = c .before .before .before .before .before .before in
     let a = b .before .before in
     let d = a .before .before in
     let filled = d .before .before .before .parent-table .ensures in
-    let t = tabled _ _ _ _ _ _ (omega arith) (filled .0) (d .windows .given .1) (filled .1) in
+    let t = tabled _ _ _ _ _ _ (filled .0) (d .windows .given .1) (filled .1) in
     let written = c .before .before .write-between .ensures in
     chain-asked _ _ _ _ (t .plan) _ (a .ask-positions .ensures) (b .enum-told .given .1) _ _ _ (written .0) (written .1)
 
@@ -80,7 +78,7 @@ write-between-requires-2 : tie.Need-write-between-requires-2
 write-between-requires-2 c κs = let a = c .before .before .before .before .before in
     let d = a .before .before in
     let filled = d .before .before .before .parent-table .ensures in
-    let t = tabled _ _ _ _ _ _ (omega arith) (filled .0) (d .windows .given .1) (filled .1) in
+    let t = tabled _ _ _ _ _ _ (filled .0) (d .windows .given .1) (filled .1) in
     let within = passed-within _ _ _ (sym (c .before .before .before .enum-told .given .1) ∙ a .ask-positions .ensures) in
     (parented t, (c .before .before .if1 .left, omega (arith, within, t .plan .counted)))
 
@@ -92,7 +90,7 @@ returns-4 c = let b = c .before .before .before .before .before .before in
     let a = b .before .before in
     let d = a .before .before in
     let filled = d .before .before .before .parent-table .ensures in
-    let t = tabled _ _ _ _ _ _ (omega arith) (filled .0) (d .windows .given .1) (filled .1) in
+    let t = tabled _ _ _ _ _ _ (filled .0) (d .windows .given .1) (filled .1) in
     let written = c .before .before .write-between2 .ensures in
     chain-asked-turned _ _ _ _ (t .plan) _ (a .ask-positions .ensures) (b .enum-told .given .1) _ _ _ (written .0) (written .1)
 

@@ -3,7 +3,7 @@
 -- Assumes nothing.
 use native.Mathlib.Omega.{arith}
 use Rattle.plan.specs.Validation.{greatestCount}
-use Rattle.tree.proofs.SingleTabled.{tabled, table-refuses}
+use Rattle.minutes.proofs.SingleTabled.{tabled, table-refuses}
 use Rattle.path.proofs.Sameness.{same-refused, same-refused-second, same-lengths, same-yes, same-no}
 use borrow.Author.Needs.{needs}
 use Rattle.path.proofs.same_plans.same.Statement.{statement}
@@ -40,12 +40,12 @@ from-requires : tie.Need-from-requires
 from-requires c κs = search needs
 
 returns-2 : tie.Need-returns-2
-returns-2 c = let t = tabled _ _ _ _ _ _ (omega arith) (c .before .before .before .before .before .before .before .before .before .before .before .last-table .ensures .0) (c .before .before .before .before .before .before .before .before .windows .given .1) (c .before .before .before .before .before .before .before .before .before .before .before .last-table .ensures .1) in
+returns-2 c = let t = tabled _ _ _ _ _ _ (c .before .before .before .before .before .before .before .before .before .before .before .last-table .ensures .0) (c .before .before .before .before .before .before .before .before .windows .given .1) (c .before .before .before .before .before .before .before .before .before .before .before .last-table .ensures .1) in
     rw (c .from .ensures) (same-refused-second _ _ (t .plan .accepted) _ (table-refuses _ greatestCount (omega arith) _ _ (c .before .before .before .before .before .last-table2 .ensures .0) (c .before .before .refusal2 .given .1)))
 
 returns-3 : tie.Need-returns-3
-returns-3 c = let t = tabled _ _ _ _ _ _ (omega arith) (c .before .before .before .before .before .before .before .before .before .before .before .last-table .ensures .0) (c .before .before .before .before .before .before .before .before .windows .given .1) (c .before .before .before .before .before .before .before .before .before .before .before .last-table .ensures .1) in
-    let t′ = tabled _ _ _ _ _ _ (omega arith) (c .before .before .before .before .before .last-table2 .ensures .0) (c .before .before .windows2 .given .1) (c .before .before .before .before .before .last-table2 .ensures .1) in
+returns-3 c = let t = tabled _ _ _ _ _ _ (c .before .before .before .before .before .before .before .before .before .before .before .last-table .ensures .0) (c .before .before .before .before .before .before .before .before .windows .given .1) (c .before .before .before .before .before .before .before .before .before .before .before .last-table .ensures .1) in
+    let t′ = tabled _ _ _ _ _ _ (c .before .before .before .before .before .last-table2 .ensures .0) (c .before .before .windows2 .given .1) (c .before .before .before .before .before .last-table2 .ensures .1) in
     same-lengths t t′ (c .if1 .taken)
 
 slice-aggregate-agree : tie.Need-slice-aggregate-agree
@@ -58,18 +58,18 @@ cast-agree : tie.Need-cast-agree
 cast-agree c = search needs
 
 agree-requires : tie.Need-agree-requires
-agree-requires c κs = let t = tabled _ _ _ _ _ _ (omega arith) (c .before .before .before .before .before .before .before .before .before .before .before .before .before .last-table .ensures .0) (c .before .before .before .before .before .before .before .before .before .before .windows .given .1) (c .before .before .before .before .before .before .before .before .before .before .before .before .before .last-table .ensures .1) in
-    let t′ = tabled _ _ _ _ _ _ (omega arith) (c .before .before .before .before .before .before .before .last-table2 .ensures .0) (c .before .before .before .before .windows2 .given .1) (c .before .before .before .before .before .before .before .last-table2 .ensures .1) in
+agree-requires c κs = let t = tabled _ _ _ _ _ _ (c .before .before .before .before .before .before .before .before .before .before .before .before .before .last-table .ensures .0) (c .before .before .before .before .before .before .before .before .before .before .windows .given .1) (c .before .before .before .before .before .before .before .before .before .before .before .before .before .last-table .ensures .1) in
+    let t′ = tabled _ _ _ _ _ _ (c .before .before .before .before .before .before .before .last-table2 .ensures .0) (c .before .before .before .before .windows2 .given .1) (c .before .before .before .before .before .before .before .last-table2 .ensures .1) in
     (t .held .long, omega (arith, t′ .held .long, c .before .before .if1 .left))
 
 returns-4 : tie.Need-returns-4
-returns-4 c = let t = tabled _ _ _ _ _ _ (omega arith) (c .before .before .before .before .before .before .before .before .before .before .before .before .before .before .before .last-table .ensures .0) (c .before .before .before .before .before .before .before .before .before .before .before .before .windows .given .1) (c .before .before .before .before .before .before .before .before .before .before .before .before .before .before .before .last-table .ensures .1) in
-    let t′ = tabled _ _ _ _ _ _ (omega arith) (c .before .before .before .before .before .before .before .before .before .last-table2 .ensures .0) (c .before .before .before .before .before .before .windows2 .given .1) (c .before .before .before .before .before .before .before .before .before .last-table2 .ensures .1) in
+returns-4 c = let t = tabled _ _ _ _ _ _ (c .before .before .before .before .before .before .before .before .before .before .before .before .before .before .before .last-table .ensures .0) (c .before .before .before .before .before .before .before .before .before .before .before .before .windows .given .1) (c .before .before .before .before .before .before .before .before .before .before .before .before .before .before .before .last-table .ensures .1) in
+    let t′ = tabled _ _ _ _ _ _ (c .before .before .before .before .before .before .before .before .before .last-table2 .ensures .0) (c .before .before .before .before .before .before .windows2 .given .1) (c .before .before .before .before .before .before .before .before .before .last-table2 .ensures .1) in
     same-yes t t′ (c .before .before .before .before .if1 .left) _ (c .before .agree .ensures) (c .if2 .taken)
 
 returns-5 : tie.Need-returns-5
-returns-5 c = let t = tabled _ _ _ _ _ _ (omega arith) (c .before .before .before .before .before .before .before .before .before .before .before .before .before .before .before .last-table .ensures .0) (c .before .before .before .before .before .before .before .before .before .before .before .before .windows .given .1) (c .before .before .before .before .before .before .before .before .before .before .before .before .before .before .before .last-table .ensures .1) in
-    let t′ = tabled _ _ _ _ _ _ (omega arith) (c .before .before .before .before .before .before .before .before .before .last-table2 .ensures .0) (c .before .before .before .before .before .before .windows2 .given .1) (c .before .before .before .before .before .before .before .before .before .last-table2 .ensures .1) in
+returns-5 c = let t = tabled _ _ _ _ _ _ (c .before .before .before .before .before .before .before .before .before .before .before .before .before .before .before .last-table .ensures .0) (c .before .before .before .before .before .before .before .before .before .before .before .before .windows .given .1) (c .before .before .before .before .before .before .before .before .before .before .before .before .before .before .before .last-table .ensures .1) in
+    let t′ = tabled _ _ _ _ _ _ (c .before .before .before .before .before .before .before .before .before .last-table2 .ensures .0) (c .before .before .before .before .before .before .windows2 .given .1) (c .before .before .before .before .before .before .before .before .before .last-table2 .ensures .1) in
     same-no t t′ (c .before .before .before .before .if1 .left) _ (c .before .agree .ensures) (c .if2 .left)
 
 pub same-spec : {M : Type 1} → statement M

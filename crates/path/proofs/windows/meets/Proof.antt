@@ -5,7 +5,6 @@ use Rattle.path.proofs.Meeting.{meets-itself, meets-later, meets-earlie
 use borrow.Author.Needs.{needs}
 use Rattle.path.proofs.windows.meets.Statement.{statement}
 use Rattle.path.proofs.windows.meets.Tie as tie
-use Rattle.plan.proofs.overlap_in_order.Reads as overlap-in-order-reads
 
 returns : tie.Need-returns
 returns c = meets-itself _ (c .before .before .pre .0) _ _ (c .if1 .taken)

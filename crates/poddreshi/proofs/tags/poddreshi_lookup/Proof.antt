@@ -4,7 +4,6 @@
 use mathlib.Core.Path.{sym, ap, _∙_}
 use mathlib.Core.Logic.{⊎-elim}
 use native.Mathlib.Omega.{arith}
-use Rattle.tag.specs.Fields.{tagLength, fieldCount}
 use Rattle.tag.proofs.TagFile.{found-within}
 use Rattle.packing.specs.Packing.{packedLookup}
 use Rattle.poddreshi.specs.Lent.{offsetAfter}
@@ -19,7 +18,6 @@ enum-told : tie.Need-enum-told
 enum-told c = search needs
 
 mul-offset : tie.Need-mul-offset
-unfolding tagLength fieldCount
 mul-offset c = let h = found-within _ _ (sym (c .before .before .lookup-refusal .ensures) ∙ c .enum-told .given .1) in omega arith
 
 enum-told-2 : tie.Need-enum-told-2
@@ -29,7 +27,7 @@ pack-lookup-requires : tie.Need-pack-lookup-requires
 pack-lookup-requires c κs = search needs
 
 returns : tie.Need-returns
-unfolding offsetAfter tagLength fieldCount
+unfolding offsetAfter
 returns c = let told = c .before .before .lookup-refusal .ensures in
     (c .pack-lookup .ensures ∙ ap packedLookup told, rw (← told) (⊎-elim (λ w. rw (w .2) (rw (w .1 .given .1))) (λ w. rw (w .2) (rw (w .1 .given .1))) (c .before .match .came)))
 

@@ -1,0 +1,28 @@
+//! What a call can answer, whichever side gives the answer.
+
+#[derive(Clone, Copy, PartialEq, Eq, Debug)]
+pub struct Refusal {
+    pub number: u16,
+    pub input: u16,
+    pub position: u16,
+}
+
+pub fn refusal(number: u16, input: u16, position: usize) -> Refusal {
+    Refusal { number, input, position: position as u16 }
+}
+
+#[derive(Clone, Copy, PartialEq, Eq, Debug)]
+pub enum Answer {
+    Refused(Refusal),
+    Accepted { plan: u16, windows: u16 },
+    Built { plan: u16, windows: u16, components: u16 },
+    Reach(u16),
+    Chain(u16),
+    NoChain,
+    Neighbours(u16),
+    Same,
+    Different,
+    Handovers(u16),
+    Found,
+    Written,
+}

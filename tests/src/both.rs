@@ -1,0 +1,131 @@
+//! One call put to both sides, the library and the oracle: what each answers, what the library leaves in everything lent, and
+//! what the oracle would have there.
+use crate::answers::Answer;
+use crate::calls::{self, Lent, Tables};
+use crate::compare::Comparison;
+use crate::expected::{self, Owed};
+use crate::oracle::Columns;
+use std::fmt::{Arguments, Debug};
+
+/// Something lent, which can be held to what is to be written there.
+pub trait Holds<W> {
+    fn holds(&self, what: Arguments, written: &W);
+}
+
+/// Nothing is lent.
+impl Holds<()> for () {
+    fn holds(&self, _: Arguments, _: &()) {}
+}
+
+impl<T: Copy + PartialEq + Debug> Holds<Vec<T>> for Lent<T> {
+    fn holds(&self, what: Arguments, written: &Vec<T>) {
+        self.holds(what, written);
+    }
+}
+
+impl Holds<Columns> for Tables {
+    fn holds(&self, what: Arguments, written: &Columns) {
+        self.holds(what, written);
+    }
+}
+
+/// The place for a tag's offset, which a refused lookup leaves as it was.
+pub struct Offset {
+    before: usize,
+    now: usize,
+}
+
+impl Holds<Option<usize>> for Offset {
+    fn holds(&self, what: Arguments, written: &Option<usize>) {
+        assert_eq!(self.now, written.unwrap_or(self.before), "{what}: the offset");
+    }
+}
+
+pub struct Both<L, W> {
+    library: Answer,
+    lent: L,
+    pub oracle: Answer,
+    pub written: W,
+}
+
+impl<L: Holds<W>, W: PartialEq + Debug> Both<L, W> {
+    /// Both say this, and the library has written this and nothing else.
+    #[track_caller]
+    pub fn are(&self, what: Arguments, answer: Answer, written: &W) {
+        assert_eq!(self.oracle, answer, "{what}: the oracle (left) and what it is held to");
+        assert_eq!(&self.written, written, "{what}: what the oracle writes (left), and what it is held to");
+        assert_eq!(self.library, answer, "{what}: the library (left) and what it is held to");
+        self.lent.holds(what, written);
+    }
+
+    /// The library says and writes what the oracle does.
+    #[track_caller]
+    pub fn agree(&self, what: Arguments) {
+        self.are(what, self.oracle, &self.written);
+    }
+}
+
+impl Comparison {
+    fn both<L, W: Default>(&mut self, library: Answer, lent: L, owed: Owed<W>) -> Both<L, W> {
+        self.calls += 1;
+        let (oracle, written) = owed.unwrap_or_else(|no| (Answer::Refused(no), W::default()));
+        Both { library, lent, oracle, written }
+    }
+
+    pub fn validate(&mut self, file: &[u8]) -> Both<(), ()> {
+        self.both(calls::validate(file), (), expected::validate(file))
+    }
+
+    pub fn build(&mut self, file: &[u8], rooms: [usize; 5], tag_room: usize) -> Both<Tables, Columns> {
+        let mut lent = Tables::new(rooms, tag_room, &mut self.random);
+        let library = calls::build(file, &mut lent);
+        self.both(library, lent, expected::build(file, rooms, tag_room))
+    }
+
+    pub fn tag_file(&mut self, file: &[u8], room: usize) -> Both<Lent<u8>, Vec<u8>> {
+        let mut out = calls::bytes(room, &mut self.random);
+        let library = calls::tags(file, &mut out);
+        self.both(library, out, expected::tags(file, room))
+    }
+
+    pub fn reach(&mut self, file: &[u8], at: usize) -> Both<(), ()> {
+        self.both(calls::reach(file, at), (), expected::reach(file, at))
+    }
+
+    pub fn chain(&mut self, file: &[u8], first: usize, second: usize, room: usize) -> Both<Lent<u16>, Vec<u16>> {
+        let mut out = calls::words(room, &mut self.random);
+        let library = calls::chain(file, first, second, &mut out);
+        self.both(library, out, expected::chain(file, first, second, room))
+    }
+
+    pub fn neighbours(&mut self, file: &[u8], at: usize, room: usize) -> Both<Lent<u16>, Vec<u16>> {
+        let mut out = calls::words(room, &mut self.random);
+        let library = calls::neighbours(file, at, &mut out);
+        self.both(library, out, expected::neighbours(file, at, room))
+    }
+
+    pub fn same(&mut self, first: &[u8], second: &[u8]) -> Both<(), ()> {
+        self.both(calls::same(first, second), (), expected::same(first, second))
+    }
+
+    pub fn pair(&mut self, first: &[u8], second: &[u8]) -> Both<(), ()> {
+        self.both(calls::pair(first, second), (), expected::pair(first, second))
+    }
+
+    pub fn pair_at(&mut self, tags: &[u8], first: usize, second: usize) -> Both<(), ()> {
+        self.both(calls::pair_at(tags, first, second), (), expected::pair_at(tags, first, second))
+    }
+
+    pub fn lookup(&mut self, tags: &[u8], at: usize) -> Both<Offset, Option<usize>> {
+        let before = self.random.next() as usize;
+        let mut now = before;
+        let library = calls::lookup(tags, at, &mut now);
+        self.both(library, Offset { before, now }, expected::lookup(tags, at))
+    }
+
+    pub fn write(&mut self, tag: [u16; 5], room: usize) -> Both<Lent<u8>, Vec<u8>> {
+        let mut out = calls::bytes(room, &mut self.random);
+        let library = calls::write(tag, &mut out);
+        self.both(library, out, expected::write(tag, room))
+    }
+}

@@ -1,0 +1,105 @@
+//! What each call owes on every input: the questions that fit the call, in the paper's order, and then what the oracle finds.
+//! With an answer goes what is to stand at the front of each lent table; a refusal writes nothing.
+use crate::answers::{refusal, Answer, Refusal};
+use crate::oracle::{self, Columns, Tree};
+
+pub type Owed<W> = Result<(Answer, W), Refusal>;
+
+/// Questions 1 to 6.
+fn tree_of(file: &[u8], input: u16) -> Result<Tree, Refusal> {
+    Ok(Tree::of(&oracle::read_plan(file, input)?))
+}
+
+/// Question 7.
+fn is_position(at: usize, n: usize, input: u16) -> Result<(), Refusal> {
+    if at < n { Ok(()) } else { Err(refusal(7, input, 0)) }
+}
+
+/// Question 8.
+fn has_room(room: usize, wanted: usize) -> Result<(), Refusal> {
+    if room >= wanted { Ok(()) } else { Err(refusal(8, 0, 0)) }
+}
+
+/// Question 9 of a tag file; the number of its tags.
+fn tag_count(tags: &[u8]) -> Result<usize, Refusal> {
+    if tags.len() % 10 == 0 { Ok(tags.len() / 10) } else { Err(refusal(9, 0, 0)) }
+}
+
+/// Question 10 of numbers that are to be written.
+fn are_fields(fields: &[u16]) -> Result<(), Refusal> {
+    if fields.iter().all(|&field| field <= 2047) { Ok(()) } else { Err(refusal(10, 0, 0)) }
+}
+
+pub fn validate(file: &[u8]) -> Owed<()> {
+    let plan = oracle::read_plan(file, 0)?;
+    Ok((Answer::Accepted { plan: plan.number, windows: plan.windows.len() as u16 }, ()))
+}
+
+pub fn build(file: &[u8], rooms: [usize; 5], tag_room: usize) -> Owed<Columns> {
+    let tree = tree_of(file, 0)?;
+    for room in rooms {
+        has_room(room, tree.n)?;
+    }
+    has_room(tag_room, 10 * tree.n)?;
+    Ok((tree.built(), tree.columns()))
+}
+
+pub fn tags(file: &[u8], room: usize) -> Owed<Vec<u8>> {
+    let tree = tree_of(file, 0)?;
+    has_room(room, 10 * tree.n)?;
+    Ok((tree.built(), tree.columns().tags))
+}
+
+pub fn reach(file: &[u8], at: usize) -> Owed<()> {
+    let tree = tree_of(file, 0)?;
+    is_position(at, tree.n, 0)?;
+    Ok((Answer::Reach(tree.reach(at) as u16), ()))
+}
+
+pub fn chain(file: &[u8], first: usize, second: usize, room: usize) -> Owed<Vec<u16>> {
+    let tree = tree_of(file, 0)?;
+    is_position(first, tree.n, 0)?;
+    is_position(second, tree.n, 1)?;
+    let (earlier, later) = (first.min(second), first.max(second));
+    let Some(list) = tree.earliest(&tree.distances(later), &tree.distances(earlier), earlier) else {
+        return Ok((Answer::NoChain, Vec::new()));
+    };
+    has_room(room, list.len())?;
+    Ok((Answer::Chain(list.len() as u16), list))
+}
+
+pub fn neighbours(file: &[u8], at: usize, room: usize) -> Owed<Vec<u16>> {
+    let tree = tree_of(file, 0)?;
+    is_position(at, tree.n, 0)?;
+    let members = tree.neighbours(at);
+    has_room(room, members.len())?;
+    Ok((Answer::Neighbours(members.len() as u16), members))
+}
+
+pub fn same(first: &[u8], second: &[u8]) -> Owed<()> {
+    let (a, b) = (tree_of(first, 0)?, tree_of(second, 1)?);
+    Ok((if a.same_as(&b) { Answer::Same } else { Answer::Different }, ()))
+}
+
+pub fn pair(first: &[u8], second: &[u8]) -> Owed<()> {
+    Ok((oracle::pair(first, second)?, ()))
+}
+
+pub fn pair_at(tags: &[u8], first: usize, second: usize) -> Owed<()> {
+    let n = tag_count(tags)?;
+    is_position(first, n, 0)?;
+    is_position(second, n, 1)?;
+    pair(&tags[10 * first..][..10], &tags[10 * second..][..10])
+}
+
+/// What is written is where the tag begins.
+pub fn lookup(tags: &[u8], at: usize) -> Owed<Option<usize>> {
+    is_position(at, tag_count(tags)?, 0)?;
+    Ok((Answer::Found, Some(10 * at)))
+}
+
+pub fn write(tag: [u16; 5], room: usize) -> Owed<Vec<u8>> {
+    has_room(room, 10)?;
+    are_fields(&tag[1..])?;
+    Ok((Answer::Written, oracle::tag_bytes(tag)))
+}

@@ -1,0 +1,262 @@
+//! Every case of paper 01 by name, put to the library and to the oracle: both must have the paper's number, and leave every
+//! lent byte alike. The numbers stand as the paper prints them and none is computed; the few that it does not print follow from
+//! its words: a chain of two windows, the components of a plan of one window, plan 12 twice.
+use crate::answers::{refusal, Answer};
+use crate::compare::Comparison;
+use crate::oracle::Columns;
+use crate::refusals::every_call_refuses;
+use crate::shapes::file_of;
+use Says::*;
+
+pub const PLAN_12: [(u32, u32); 7] = [(0, 10), (2, 3), (4, 12), (9, 2), (12, 6), (17, 1), (18, 4)];
+
+/// The listing of plan 12, as the paper prints it.
+const LISTING: &str = "\
+12 7 2
+0 0 0 0 5 4
+1 0 0 1 0 3
+2 0 0 1 3 2
+3 0 0 1 4 4
+4 2 0 2 2 1
+5 4 0 3 1 1
+6 6 1 0 0 0
+";
+
+/// Plan 12 with its like 100 minutes later: positions and parents go on, and components; ranks start again.
+const LISTING_TWICE: &str = "\
+12 14 4
+0 0 0 0 5 4
+1 0 0 1 0 3
+2 0 0 1 3 2
+3 0 0 1 4 4
+4 2 0 2 2 1
+5 4 0 3 1 1
+6 6 1 0 0 0
+7 7 2 0 5 4
+8 7 2 1 0 3
+9 7 2 1 3 2
+10 7 2 1 4 4
+11 9 2 2 2 1
+12 11 2 3 1 1
+13 13 3 0 0 0
+";
+
+/// What the paper says of a plan file.
+enum Says {
+    /// The whole listing.
+    Lists(&'static str),
+    /// The listing's first line: plan number, windows, components.
+    Begins(u16, u16, u16),
+    /// Of two windows, the number of handovers, and the chain where the paper has it. Of 0 or 1 it is the windows themselves.
+    Handovers(usize, usize, u16, Option<&'static [u16]>),
+    NoChain(usize, usize),
+    /// Of a position.
+    Reach(usize, u16),
+    Rank(usize, u16),
+    RankOfLast(usize, u16),
+    /// The number of the question, and the position.
+    Refused(u16, usize),
+}
+
+pub struct Case {
+    pub name: &'static str,
+    pub file: Vec<u8>,
+    says: Says,
+}
+
+fn case(name: &'static str, windows: &[(u32, u32)], says: Says) -> Case {
+    Case { name, file: file_of(12, windows), says }
+}
+
+pub fn cases() -> Vec<Case> {
+    [worked(), edges(), long_inputs(), traps()].into_iter().flatten().collect()
+}
+
+fn worked() -> Vec<Case> {
+    let plan_12 = |name, says| case(name, &PLAN_12, says);
+    vec![
+        plan_12("plan 12: the listing", Lists(LISTING)),
+        plan_12("P 0 to 5 is 3, chain 5 4 2 0", Handovers(0, 5, 3, Some(&[5, 4, 2, 0]))),
+        plan_12("P 1 to 5 is 3", Handovers(1, 5, 3, None)),
+        plan_12("P 3 to 5 is 3, chain 5 4 2 3", Handovers(3, 5, 3, Some(&[5, 4, 2, 3]))),
+        plan_12("P 2 to 3 is 1", Handovers(2, 3, 1, Some(&[3, 2]))),
+        plan_12("P 1 to 3 is 2, chain 3 0 1", Handovers(1, 3, 2, Some(&[3, 0, 1]))),
+        plan_12("P 3 to 4 is 2", Handovers(3, 4, 2, None)),
+        plan_12("P 4 to 5 is 1", Handovers(4, 5, 1, Some(&[5, 4]))),
+        plan_12("P 5 to 6: no chain", NoChain(5, 6)),
+        plan_12("P 6 to 6 is 0", Handovers(6, 6, 0, Some(&[6]))),
+        plan_12("reach in plan 12: 4 for position 0", Reach(0, 4)),
+        plan_12("reach in plan 12: 1 for position 6", Reach(6, 1)),
+    ]
+}
+
+fn edges() -> Vec<Case> {
+    let short = |name, says| Case { name, file: vec![12, 0, 1, 8], says };
+    vec![
+        case("n 2,048 passes", &vec![(0, 1); 2048], Begins(12, 2048, 1)),
+        case("n 2,049 is 2", &vec![(0, 1); 2049], Refused(2, 0)),
+        short("n 2,049 is 2 even in a short file", Refused(2, 0)),
+        case("sum 10,000,000 passes: a long window", &[(0, 10_000_000)], Begins(12, 1, 1)),
+        case("sum 10,000,000 passes: a late window", &[(9_999_999, 1)], Begins(12, 1, 1)),
+        case("sum 10,000,001 is 5: a long window", &[(0, 10_000_001)], Refused(5, 0)),
+        case("sum 10,000,001 is 5: a late window", &[(10_000_000, 1)], Refused(5, 0)),
+        case("length 0 and a falling offset together: 4", &[(5, 5), (4, 0)], Refused(4, 1)),
+        case("P (0, 10) (10, 5) are two components", &[(0, 10), (10, 5)], Begins(12, 2, 2)),
+        case("P (0, 11) (10, 5) are one component", &[(0, 11), (10, 5)], Begins(12, 2, 1)),
+        case("(0, 11) (10, 5): 1 handover", &[(0, 11), (10, 5)], Handovers(0, 1, 1, Some(&[1, 0]))),
+        case("two windows (5, 5): 1 handover", &[(5, 5), (5, 5)], Handovers(0, 1, 1, Some(&[1, 0]))),
+        case("four bytes with plan number 12 and n = 0", &[], Lists("12 0 0\n")),
+    ]
+}
+
+/// As many bytes as are asked for, of which the first 16,388 are a plan of 2,048 windows, each over the next.
+fn long_input(bytes: usize) -> Vec<u8> {
+    let windows: Vec<(u32, u32)> = (0..2048).map(|v| (2 * v, 3)).collect();
+    let mut file = file_of(12, &windows);
+    file.resize(bytes, 0);
+    file
+}
+
+/// "a buffer of 16,389 zero bytes (one more than any plan)"
+fn long_inputs() -> Vec<Case> {
+    let long = |name, bytes, says| Case { name, file: long_input(bytes), says };
+    vec![
+        long("16,388 bytes are the longest plan", 16_388, Begins(12, 2048, 1)),
+        long("16,387 bytes for 2,048 windows are 3", 16_387, Refused(3, 0)),
+        long("16,389 bytes, as many as the listing's buffer, are 3", 16_389, Refused(3, 0)),
+        long("16,390 bytes, one more than the buffer, are 3", 16_390, Refused(3, 0)),
+        long("70,000 bytes are 3", 70_000, Refused(3, 0)),
+        // In 16 bits this length is that of the longest plan.
+        long("16,388 and 65,536 bytes are 3", 16_388 + 65_536, Refused(3, 0)),
+    ]
+}
+
+fn traps() -> Vec<Case> {
+    const MOST: u32 = 4_294_967_295;
+    let later = PLAN_12.map(|(offset, length)| (offset + 100, length));
+    let twice = [PLAN_12, later].concat();
+    vec![
+        case("\"<\" for \"≤\": windows 4 and 5 of plan 12 are 1", &PLAN_12, Handovers(4, 5, 1, Some(&[5, 4]))),
+        case("touching ends as overlap: (0, 10) (10, 5) have no chain", &[(0, 10), (10, 5)], NoChain(0, 1)),
+        case("a sum in 32 bits: 4,294,967,295 twice is 5", &[(MOST, MOST)], Refused(5, 0)),
+        // The sum of the case before is too great in 32 bits too. This one would be 5 minutes there.
+        case("a sum in 32 bits: (4,294,967,295, 6) is 5", &[(MOST, 6)], Refused(5, 0)),
+        case("ranks that run on: window 6 of plan 12 has rank 0", &PLAN_12, Rank(6, 0)),
+        case("ranks that run on: plan 12 twice", &twice, Lists(LISTING_TWICE)),
+        // The lasts of these three stand one level below them.
+        case("the last on one level only: window 0 of plan 12", &PLAN_12, RankOfLast(0, 4)),
+        case("the last on one level only: window 2 of plan 12", &PLAN_12, RankOfLast(2, 2)),
+        case("the last on one level only: window 4 of plan 12", &PLAN_12, RankOfLast(4, 1)),
+    ]
+}
+
+impl Case {
+    /// How the listing program's text begins, as far as the case says it.
+    pub fn printed(&self) -> String {
+        match self.says {
+            Lists(listing) => listing.to_string(),
+            Begins(plan, windows, components) => format!("{plan} {windows} {components}\n"),
+            Refused(number, position) => format!("refused {number} {position}\n"),
+            _ => String::new(),
+        }
+    }
+
+    pub fn hold(&self, comparison: &mut Comparison) {
+        let file = &self.file.clone();
+        match self.says {
+            Lists(listing) => lists(comparison, file, listing),
+            Begins(plan, windows, components) => begins(comparison, file, [plan, windows, components]),
+            Handovers(u, v, count, chain) => handovers(comparison, file, (u, v), count, chain),
+            NoChain(u, v) => no_chain(comparison, file, (u, v)),
+            Reach(at, count) => comparison.reach(file, at).are(format_args!("reach"), Answer::Reach(count), &()),
+            Rank(at, rank) => assert_eq!(columns(comparison, file).tables[3][at], rank, "rank"),
+            RankOfLast(at, rank) => assert_eq!(columns(comparison, file).tables[4][at], rank, "rank of the last"),
+            Refused(number, position) => every_call_refuses(comparison, file, number, position),
+        }
+        assert_eq!(file, &self.file, "a file that was only to be read");
+    }
+}
+
+fn windows(file: &[u8]) -> usize {
+    (file.len() - 4) / 8
+}
+
+/// Rooms that fit, and rooms that are longer.
+const MORE: [usize; 2] = [0, 5];
+
+fn begins(comparison: &mut Comparison, file: &[u8], line: [u16; 3]) {
+    let [plan, windows, components] = line;
+    comparison.validate(file).are(format_args!("validate"), Answer::Accepted { plan, windows }, &());
+    for more in MORE {
+        let room = windows as usize + more;
+        let built = comparison.build(file, [room; 5], 10 * windows as usize + more);
+        built.are(format_args!("build"), Answer::Built { plan, windows, components }, &built.written);
+    }
+}
+
+fn lists(comparison: &mut Comparison, file: &[u8], listing: &str) {
+    let mut rows = listing.lines().map(|line| line.split(' ').map(|word| word.parse().unwrap()).collect::<Vec<u16>>());
+    let line: [u16; 3] = rows.next().unwrap().try_into().unwrap();
+    begins(comparison, file, line);
+    let mut paper = Columns::default();
+    for (position, row) in rows.enumerate() {
+        assert_eq!(row[0] as usize, position, "the paper's positions");
+        let tag = [line[0], row[2], row[3], row[4], row[5]];
+        let bytes: Vec<u8> = tag.iter().flat_map(|number| number.to_le_bytes()).collect();
+        comparison.write(tag, 12).are(format_args!("write of {tag:?}"), Answer::Written, &bytes);
+        paper.tags.extend(bytes);
+        for (column, &number) in paper.tables.iter_mut().zip(&row[1..]) {
+            column.push(number);
+        }
+    }
+    assert_eq!(columns(comparison, file), paper, "the tables and the tag file (left) and the paper's");
+    let [plan, windows, components] = line;
+    for more in MORE {
+        let tags = comparison.tag_file(file, paper.tags.len() + more);
+        tags.are(format_args!("tags"), Answer::Built { plan, windows, components }, &paper.tags);
+    }
+    for position in 0..line[1] as usize {
+        let found = comparison.lookup(&paper.tags, position);
+        found.are(format_args!("lookup of {position}"), Answer::Found, &Some(10 * position));
+    }
+}
+
+/// What both sides write of a plan.
+fn columns(comparison: &mut Comparison, file: &[u8]) -> Columns {
+    let n = windows(file);
+    let built = comparison.build(file, [n + 5; 5], 10 * n + 5);
+    built.agree(format_args!("build"));
+    built.written
+}
+
+/// From two tags and from the plan, in both orders; the oracle has a rule for the one and a search for the other.
+fn handovers(comparison: &mut Comparison, file: &[u8], (u, v): (usize, usize), count: u16, chain: Option<&[u16]>) {
+    let tags = columns(comparison, file).tags;
+    let entries = count as usize + 1;
+    for (first, second) in [(u, v), (v, u)] {
+        let both = comparison.pair(&tags[10 * first..][..10], &tags[10 * second..][..10]);
+        both.are(format_args!("pair of {first} and {second}"), Answer::Handovers(count), &());
+        let both = comparison.pair_at(&tags, first, second);
+        both.are(format_args!("pair at {first} and {second}"), Answer::Handovers(count), &());
+        for more in MORE {
+            let both = comparison.chain(file, first, second, entries + more);
+            let paper = chain.map_or(both.written.clone(), <[u16]>::to_vec);
+            both.are(format_args!("chain of {first} and {second}"), Answer::Chain(entries as u16), &paper);
+        }
+        let both = comparison.chain(file, first, second, entries - 1);
+        both.are(format_args!("chain in a short table"), Answer::Refused(refusal(8, 0, 0)), &vec![]);
+    }
+}
+
+fn no_chain(comparison: &mut Comparison, file: &[u8], (u, v): (usize, usize)) {
+    let tags = columns(comparison, file).tags;
+    for (first, second) in [(u, v), (v, u)] {
+        let both = comparison.pair(&tags[10 * first..][..10], &tags[10 * second..][..10]);
+        both.are(format_args!("pair of {first} and {second}"), Answer::NoChain, &());
+        comparison.pair_at(&tags, first, second).are(format_args!("pair at {first} and {second}"), Answer::NoChain, &());
+        for room in MORE {
+            let both = comparison.chain(file, first, second, room);
+            both.are(format_args!("chain of {first} and {second}"), Answer::NoChain, &vec![]);
+        }
+    }
+}

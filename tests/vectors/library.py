@@ -1,0 +1,79 @@
+"""The compiled library by its C interface (include/poddreshi.h), with the calls as methods that reader.Reader has."""
+import ctypes
+
+from reader import Refused
+
+REFUSED, NO_CHAIN, SAME = 0, 5, 7
+WORD, TABLE = ctypes.c_size_t, {list: ctypes.c_uint16, bytearray: ctypes.c_uint8}
+
+
+class Library:
+    """read, parents and lasts are no calls of the C interface; pair_at and tags are where the library has them."""
+
+    def __init__(self, path):
+        self.library = ctypes.CDLL(path)
+
+    def has(self, call):
+        return call not in ("read", "parents", "lasts") and hasattr(self.library, "poddreshi_" + call)
+
+    def ask(self, call, *arguments):
+        """Bytes and tables are passed with their lengths behind them. A table that is lent is copied back, all of it."""
+        passed, lent = [], []
+        for argument in arguments:
+            if isinstance(argument, bytes):
+                passed += [ctypes.c_char_p(argument), WORD(len(argument))]
+            elif type(argument) in TABLE:
+                copy = (TABLE[type(argument)] * max(1, len(argument)))(*argument)
+                lent.append((argument, copy))
+                passed += [copy, WORD(len(argument))]
+            else:
+                passed.append(argument)
+        function = getattr(self.library, "poddreshi_" + call)
+        function.restype = ctypes.c_uint64
+        answer = function(*passed)
+        for table, copy in lent:
+            table[:] = copy[: len(table)]
+        kind, *fields = (answer >> 16 * field & 0xFFFF for field in range(4))
+        if kind == REFUSED:
+            raise Refused(*fields)
+        return kind, fields
+
+    def validate(self, file):
+        return tuple(self.ask("validate", file)[1][:2])
+
+    def build(self, file, *lent):
+        return tuple(self.ask("build", file, *lent)[1])
+
+    def tags(self, file, tags):
+        return tuple(self.ask("tags", file, tags)[1])
+
+    def write(self, *arguments):
+        *numbers, out = arguments
+        self.ask("write", *map(ctypes.c_uint16, numbers), out)
+
+    def lookup(self, tags, at):
+        offset = WORD()
+        self.ask("lookup", tags, WORD(at), ctypes.byref(offset))
+        return tags[offset.value : offset.value + 10]
+
+    def count(self, call, *arguments):
+        kind, fields = self.ask(call, *arguments)
+        return None if kind == NO_CHAIN else fields[0]
+
+    def pair(self, first, second):
+        return self.count("pair", first, second)
+
+    def pair_at(self, tags, first, second):
+        return self.count("pair_at", tags, WORD(first), WORD(second))
+
+    def chain(self, file, first, second, out):
+        return self.count("chain", file, WORD(first), WORD(second), out)
+
+    def neighbours(self, file, at, out):
+        return self.count("neighbours", file, WORD(at), out)
+
+    def reach(self, file, at):
+        return self.count("reach", file, WORD(at))
+
+    def same(self, first, second):
+        return self.ask("same", first, second)[0] == SAME

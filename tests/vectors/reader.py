@@ -1,0 +1,360 @@
+"""A reader made from the words of docs/FORMAT.md alone: every call, in the plainest way, with no regard to speed.
+
+Each question, each number of the tree and each half of the rule is a method of its own, so that a wrong reader
+(wrong_readers.py) can get one of them wrong. Tables and tag files that a call writes to are lists and bytearrays that the
+caller lends. A refusal is raised; "no chain" is None.
+"""
+from collections import namedtuple
+
+Plan = namedtuple("Plan", "number offsets lengths ends")
+Tree = namedtuple("Tree", "parents components depths ranks last_ranks")
+Tag = namedtuple("Tag", "plan component depth rank last")
+
+
+class Refused(Exception):
+    def __init__(self, number, input=0, position=0):
+        super().__init__(number, input, position)
+        self.number, self.input, self.position = number, input, position
+
+
+class Reader:
+    # Numbers in bytes.
+
+    def number(self, part):
+        return int.from_bytes(part, "little")
+
+    def two_bytes(self, number):
+        return number.to_bytes(2, "little")
+
+    # The questions, each with its yes or no, and the refusal that a "no" gives.
+
+    def question_1(self, file):
+        return len(file) >= 4
+
+    def question_2(self, windows):
+        return windows <= 2048
+
+    def question_3(self, file, windows):
+        return len(file) == 4 + 8 * windows
+
+    def question_4(self, offset, length):
+        return length >= 1
+
+    def question_5(self, offset, length):
+        return offset + length <= 10_000_000
+
+    def question_6(self, offset, before):
+        return offset >= before
+
+    def question_7(self, position, windows):
+        return position < windows
+
+    def question_8(self, room, wanted):
+        return room >= wanted
+
+    def question_9(self, tag):
+        return len(tag) == 10
+
+    def question_9_of_file(self, tags):
+        return len(tags) % 10 == 0
+
+    def question_10(self, tag):
+        return all(field <= 2047 for field in (tag.component, tag.depth, tag.rank, tag.last))
+
+    def question_11(self, first, second):
+        return first.plan == second.plan
+
+    def question_12(self, first, second):
+        return first == second or (first.component, first.rank) != (second.component, second.rank)
+
+    def ask(self, yes, number, input=0, position=0):
+        if not yes:
+            raise Refused(number, input, position)
+
+    # The plan file.
+
+    def header(self, file):
+        return self.number(file[0:2]), self.number(file[2:4])
+
+    def window(self, file, position):
+        part = file[4 + 8 * position : 12 + 8 * position]
+        return self.number(part[:4]), self.number(part[4:])
+
+    def end(self, offset, length):
+        return offset + length
+
+    def read_plan(self, file, input=0):
+        self.ask_file(file, input)
+        number, windows = self.header(file)
+        pairs = [self.window(file, position) for position in range(windows)]
+        self.ask_windows(pairs, input)
+        return Plan(number, [o for o, _ in pairs], [l for _, l in pairs], [self.end(o, l) for o, l in pairs])
+
+    def ask_file(self, file, input):
+        self.ask(self.question_1(file), 1, input)
+        windows = self.header(file)[1]
+        self.ask(self.question_2(windows), 2, input)
+        self.ask(self.question_3(file, windows), 3, input)
+
+    def ask_windows(self, pairs, input):
+        for position in range(len(pairs)):
+            self.ask_window(pairs, position, input)
+
+    def ask_window(self, pairs, position, input):
+        self.ask(self.question_4(*pairs[position]), 4, input, position)
+        self.ask(self.question_5(*pairs[position]), 5, input, position)
+        if position > 0:
+            self.ask(self.question_6(pairs[position][0], pairs[position - 1][0]), 6, input, position)
+
+    # The tree.
+
+    def overlap(self, plan, u, v):
+        """Of u before v."""
+        return plan.ends[u] > plan.offsets[v]
+
+    def overlapping(self, plan, u, v):
+        if u == v:
+            return False
+        return self.overlap(plan, u, v) if u < v else self.overlap(plan, v, u)
+
+    def parent(self, plan, v):
+        for u in range(v):
+            if self.overlap(plan, u, v):
+                return u
+        return v
+
+    def last(self, plan, u):
+        v = u  # Offsets do not fall, so the later windows that overlap u stand right behind it.
+        while v + 1 < len(plan.offsets) and self.overlap(plan, u, v + 1):
+            v += 1
+        return v
+
+    def parent_table(self, plan):
+        return [self.parent(plan, v) for v in range(len(plan.offsets))]
+
+    def last_table(self, plan):
+        return [self.last(plan, u) for u in range(len(plan.offsets))]
+
+    def component_table(self, parents):
+        table, count = [], 0
+        for v, u in enumerate(parents):
+            table.append(count if u == v else table[u])
+            count += u == v
+        return table
+
+    def depth_table(self, parents):
+        table = []
+        for v, u in enumerate(parents):
+            table.append(0 if u == v else table[u] + 1)
+        return table
+
+    def post_order(self, children, root):
+        order, waiting = [], [root]
+        while waiting:  # The parent, then its children from the last to the first; the post-order is this reversed.
+            v = waiting.pop()
+            order.append(v)
+            waiting.extend(children[v])
+        return order[::-1]
+
+    def rank_table(self, parents):
+        children = [[] for _ in parents]
+        for v, u in enumerate(parents):
+            if u != v:
+                children[u].append(v)
+        table = [0] * len(parents)
+        for root in range(len(parents)):
+            if parents[root] == root:
+                for rank, v in enumerate(self.post_order(children, root)):
+                    table[v] = rank
+        return table
+
+    def tree(self, plan):
+        parents = self.parent_table(plan)
+        ranks = self.rank_table(parents)
+        last_ranks = [ranks[v] for v in self.last_table(plan)]
+        return Tree(parents, self.component_table(parents), self.depth_table(parents), ranks, last_ranks)
+
+    def components(self, tree):
+        return max(tree.components, default=-1) + 1
+
+    def tag_file(self, plan, tree):
+        rows = zip(tree.components, tree.depths, tree.ranks, tree.last_ranks)
+        return b"".join(self.tag_bytes(Tag(plan.number, *row)) for row in rows)
+
+    # Tags.
+
+    def tag_bytes(self, tag):
+        return b"".join(map(self.two_bytes, tag))
+
+    def tag_fields(self, tag):
+        return Tag(*(self.number(tag[at : at + 2]) for at in range(0, 10, 2)))
+
+    def read_tag(self, tag, input):
+        self.ask(self.question_9(tag), 9, input)
+        fields = self.tag_fields(tag)
+        self.ask(self.question_10(fields), 10, input)
+        return fields
+
+    def read_two(self, first, second):
+        return self.read_tag(first, 0), self.read_tag(second, 1)
+
+    def ask_two(self, first, second):
+        self.ask(self.question_11(first, second), 11, 1)
+        self.ask(self.question_12(first, second), 12, 1)
+
+    def least(self, first, second):
+        if first == second:
+            return 0
+        if first.component != second.component:
+            return None
+        u, v = self.in_order(first, second)
+        return self.rule(u, v, v.depth - u.depth)
+
+    def in_order(self, first, second):
+        return sorted((first, second), key=lambda tag: (tag.depth, tag.rank))
+
+    def rule(self, u, v, d):
+        return self.first_half(u, v, d) if u.rank < v.rank else self.second_half(u, v, d)
+
+    def first_half(self, u, v, d):
+        return d + 1 if v.rank <= u.last or u.last < u.rank else d + 2
+
+    def second_half(self, u, v, d):
+        return d if v.rank <= u.last and u.last < u.rank else d + 1
+
+    def ask_lookup(self, tags, at, input=0):
+        self.ask(self.question_9_of_file(tags), 9)
+        self.ask(self.question_7(at, len(tags) // 10), 7, input)
+
+    def part(self, tags, at):
+        return bytes(tags[10 * at : 10 * at + 10])
+
+    # Chains.
+
+    def handovers_to(self, plan, target):
+        """For each window the least number of handovers to the target, or None."""
+        away = [None] * len(plan.offsets)
+        away[target], reached = 0, [target]
+        for u in reached:
+            for v in range(len(away)):
+                if away[v] is None and self.overlapping(plan, u, v):
+                    away[v] = away[u] + 1
+                    reached.append(v)
+        return away
+
+    def nearer(self, plan, away, u):
+        """The windows to which a shortest chain can go from u."""
+        return [v for v in range(len(away)) if away[v] == away[u] - 1 and self.overlapping(plan, u, v)]
+
+    def shortest(self, plan, earlier, later):
+        away = self.handovers_to(plan, earlier)
+        if away[later] is None:
+            return None
+        chain = [later]
+        while chain[-1] != earlier:
+            chain.append(min(self.nearer(plan, away, chain[-1])))
+        return chain
+
+    # The calls.
+
+    def fill(self, table, entries):
+        table[: len(entries)] = entries
+
+    def ask_room(self, lent, wanted):
+        self.ask(self.question_8(len(lent), wanted), 8)
+
+    def ask_positions(self, first, second, windows):
+        self.ask(self.question_7(first, windows), 7, 0)
+        self.ask(self.question_7(second, windows), 7, 1)
+
+    def validate(self, file):
+        plan = self.read_plan(file)
+        return plan.number, len(plan.offsets)
+
+    def build(self, file, parents, components, depths, ranks, last_ranks, tags):
+        plan = self.read_plan(file)
+        windows = len(plan.offsets)
+        tables = (parents, components, depths, ranks, last_ranks)
+        for table in tables:
+            self.ask_room(table, windows)
+        self.ask_room(tags, 10 * windows)
+        tree = self.tree(plan)
+        for table, entries in zip(tables, tree):
+            self.fill(table, entries)
+        self.fill(tags, self.tag_file(plan, tree))
+        return plan.number, windows, self.components(tree)
+
+    def tags(self, file, tags):
+        plan = self.read_plan(file)
+        self.ask_room(tags, 10 * len(plan.offsets))
+        tree = self.tree(plan)
+        self.fill(tags, self.tag_file(plan, tree))
+        return plan.number, len(plan.offsets), self.components(tree)
+
+    def parents(self, file, table):
+        plan = self.read_plan(file)
+        self.ask_room(table, len(plan.offsets))
+        self.fill(table, self.parent_table(plan))
+        return len(plan.offsets)
+
+    def lasts(self, file, table):
+        plan = self.read_plan(file)
+        self.ask_room(table, len(plan.offsets))
+        self.fill(table, self.last_table(plan))
+        return len(plan.offsets)
+
+    def read(self, tag):
+        return tuple(self.read_tag(tag, 0))
+
+    def write(self, plan, component, depth, rank, last, out):
+        tag = Tag(plan, component, depth, rank, last)
+        self.ask_room(out, 10)
+        self.ask(self.question_10(tag), 10)
+        self.fill(out, self.tag_bytes(tag))
+
+    def lookup(self, tags, at):
+        self.ask_lookup(tags, at)
+        return self.part(tags, at)
+
+    def pair(self, first, second):
+        first, second = self.read_two(first, second)
+        self.ask_two(first, second)
+        return self.least(first, second)
+
+    def pair_at(self, tags, first, second):
+        self.ask_lookup(tags, first, 0)
+        self.ask_lookup(tags, second, 1)
+        return self.pair(self.part(tags, first), self.part(tags, second))
+
+    def chain(self, file, first, second, out):
+        plan = self.read_plan(file)
+        self.ask_positions(first, second, len(plan.offsets))
+        chain = self.shortest(plan, min(first, second), max(first, second))
+        if chain is None:
+            return None
+        self.ask_room(out, len(chain))
+        self.fill(out, chain)
+        return len(chain)
+
+    def neighbours(self, file, at, out):
+        plan = self.read_plan(file)
+        self.ask(self.question_7(at, len(plan.offsets)), 7)
+        found = [v for v in range(len(plan.offsets)) if self.overlapping(plan, at, v)]
+        self.ask_room(out, len(found))
+        self.fill(out, found)
+        return len(found)
+
+    def reach(self, file, at):
+        plan = self.read_plan(file)
+        self.ask(self.question_7(at, len(plan.offsets)), 7)
+        tree = self.tree(plan)
+        same = [v for v, component in enumerate(tree.components) if component == tree.components[at]]
+        return tree.depths[same[-1]] + 1
+
+    def same(self, first, second):
+        first, second = self.read_plan(first, 0), self.read_plan(second, 1)
+        windows = len(first.offsets)
+        if windows != len(second.offsets):
+            return False
+        pairs = ((u, v) for v in range(windows) for u in range(v))
+        return all(self.overlap(first, u, v) == self.overlap(second, u, v) for u, v in pairs)

@@ -1,0 +1,186 @@
+"""The vectors of docs/vectors/ and the document that they belong to.
+
+    python3 -B -m unittest discover -s tests/vectors                 from the repository's root
+    python3 -B tests/vectors/test_vectors.py --catches               each wrong reader, and the shortest vector that it fails
+
+The right reader passes every vector, each wrong reader fails one, the compiled library passes all that its C interface can
+express (where PODDRESHI_LIBRARY names it), and docs/FORMAT.md agrees with the vectors.
+"""
+import os
+import re
+import sys
+import unittest
+from collections import Counter, defaultdict
+
+from library import Library
+from reader import Reader
+from vectors import CALLS, DOCS, FOLDER, Malformed, all_vectors, parse_file, parse_vector, passes, said, without_comment, words_of
+from wrong_readers import WRONG
+
+VECTORS = sorted(all_vectors(), key=lambda one: 10**9 if one.where.startswith("long.txt") else len(one.text))  # The quick first.
+DOCUMENT = (DOCS / "FORMAT.md").read_text(encoding="utf-8")
+QUESTIONS = range(1, 13)
+SLIPS = (
+    "pair 00 00",
+    "pair 00 : no_chain",
+    "pair 0 00 : no_chain",
+    "pair 0A 00 : no_chain",
+    "pair 00 00 : same",
+    "pair 00 00 : no_chain : no_chain",
+    "pear 00 00 : no_chain",
+    "reach 00 01 : reach 1",
+    "chain 00 0 0 1 : chain 1,,2",
+    "lookup 00*2 0 : found 00",
+)
+
+
+def first_failed(reader):
+    return next((vector for vector in VECTORS if not passes(reader, vector)), None)
+
+
+def failure(reader, vector):
+    return f"{vector.where}: {vector.text[:300]}\n  but it says: {words_of(said(reader, vector))[:300]}"
+
+
+def table(*headings):
+    """The rows of the table of the document that has these headings, each as a list of its cells."""
+    lines = DOCUMENT.split("\n")
+    at = lines.index("| " + " | ".join(headings) + " |")
+    rows = []
+    for line in lines[at + 2 :]:
+        if not line.startswith("|"):
+            return rows
+        rows.append([cell.strip() for cell in line.strip("|").split("|")])
+
+
+def blocks():
+    """The lines of the fenced blocks of the document."""
+    return [line for block in DOCUMENT.split("```")[1::2] for line in block.strip("\n").split("\n")]
+
+
+class Files(unittest.TestCase):
+    def test_every_file_is_parsed_to_its_last_line(self):
+        self.assertEqual({path.suffix for path in FOLDER.iterdir() if path.name != "README.md"}, {".txt"})
+        due = 0
+        for path in FOLDER.glob("*.txt"):
+            revision, _ = parse_file(path)
+            self.assertEqual(f"{revision}", re.search(r"^Revision ([0-9]+), ", DOCUMENT, re.M).group(1), path.name)
+            due += sum(1 for line in path.read_text().splitlines()[1:] if line.split("#")[0].strip())
+            self.assertIn(f"`{path.name}`", (FOLDER / "README.md").read_text())
+        self.assertEqual(len(VECTORS), due)
+
+    def test_no_vector_stands_twice(self):
+        self.assertEqual([text for text, times in Counter(vector.text for vector in VECTORS).items() if times > 1], [])
+
+
+class Readers(unittest.TestCase):
+    def test_the_right_reader_passes_every_vector(self):
+        failed = first_failed(Reader())
+        self.assertIsNone(failed, failed and failure(Reader(), failed))
+
+    def test_each_wrong_reader_fails_some_vector(self):
+        self.assertGreaterEqual(len({reader.__name__ for reader in WRONG}), 40)
+        self.assertEqual(len({reader.mistake for reader in WRONG}), len(WRONG))
+        caught = {reader: first_failed(reader()) for reader in WRONG}
+        self.assertEqual([f"{reader.__name__}: {reader.mistake}" for reader in WRONG if caught[reader] is None], [])
+        files = Counter(vector.where.split()[0] for vector in caught.values())
+        counts = ", ".join(f"{times} by {name}" for name, times in sorted(files.items()))
+        print(f"vectors: {len(VECTORS)} vectors, {len(WRONG)} wrong readers; caught first: {counts}")
+
+    def test_the_library_passes_every_vector_that_c_can_express(self):
+        if "PODDRESHI_LIBRARY" not in os.environ:
+            print("vectors: the compiled library is not tried, since PODDRESHI_LIBRARY does not say where it is")
+            self.skipTest("PODDRESHI_LIBRARY is not set")
+        library = Library(os.environ["PODDRESHI_LIBRARY"])
+        expressible = [vector for vector in VECTORS if library.has(vector.call)]
+        for vector in expressible:
+            self.assertTrue(passes(library, vector), failure(library, vector))
+        lacking = ", ".join(call for call in CALLS if not library.has(call))
+        print(f"vectors: the library passes {len(expressible)}; not in its C interface: {lacking}")
+
+
+class Document(unittest.TestCase):
+    def test_what_it_shows_stands_in_the_files(self):
+        stored = {vector.text for vector in VECTORS}
+        shown = [without_comment(line) for line in blocks() if line.split()[0] in CALLS]
+        self.assertGreaterEqual(len(shown), 40)
+        self.assertEqual([text for text in shown if text not in stored], [])
+
+    def test_plan_12_is_the_one_of_the_vectors(self):
+        rows = [line for line in blocks() if re.match(r"[0-9a-f]{2} ", line)]
+        octets = [bytes.fromhex(re.match(r"([0-9a-f]{2} )+", line + " ").group()) for line in rows]
+        file, tags = b"".join(octets[:8]), b"".join(octets[8:])
+        rows = table("position", "parent", "component", "depth", "rank", "last", "rank of the last")
+        numbers = [list(map(int, row)) for row in rows]
+        positions, parents, components, depths, ranks, lasts, last_ranks = map(list, zip(*numbers))
+        self.assertEqual(positions, list(range(7)))
+        due = [
+            ("build", ("built", 12, 7, 2, parents, components, depths, ranks, last_ranks, tags)),
+            ("tags", ("built", 12, 7, 2, tags)),
+            ("parents", ("filled", parents)),
+            ("lasts", ("filled", lasts)),
+        ]
+        stored = [(vector.call, vector.answer) for vector in VECTORS if vector.arguments[0] == file]
+        self.assertEqual([one for one in due if one not in stored], [])
+
+    def test_the_revision_is_the_last_of_its_table(self):
+        rows = table("revision", "date", "what changed", "a reader made to the revision before")
+        self.assertEqual([int(row[0]) for row in rows], list(range(1, len(rows) + 1)))
+        self.assertIn(f"\nRevision {rows[-1][0]}, {rows[-1][1]}\n", DOCUMENT)
+
+    def test_every_question_has_words(self):
+        words = {int(number): text for number, text in table("number", "words")}
+        self.assertEqual(sorted(words), list(QUESTIONS))
+        names = {name for row in table("name", "stands for") for name in re.findall(r"{(\w+)}", row[0])}
+        used = {name for text in words.values() for name in re.findall(r"{(\w+)}", text)}
+        self.assertEqual(used, names)
+
+    def test_every_refusal_that_a_call_can_give_has_a_vector(self):
+        """And no vector has another: the table of calls says which questions are asked, and of which input."""
+        stands_for = {word: set(map(int, re.findall(r"(?<!window )\b\d+", text))) for word, text in table("word", "stands for")}
+        questions = {int(row[0]): row for row in table("number", "question", "asked by", "input", "position")}
+        self.assertEqual(list(questions), list(QUESTIONS))
+        given = defaultdict(set)
+        for vector in VECTORS:
+            if vector.answer[0] == "refused":
+                number, input, position = vector.answer[1:]
+                given[vector.call].add((number, input))
+                self.assertTrue(position == 0 or questions[number][4] == "the window's", vector.where)
+        self.assertEqual([row[0] for row in table("call", "takes", "answers", "asks")], list(CALLS))
+        for call, _, _, asks in table("call", "takes", "answers", "asks"):
+            due = set()
+            for item in asks.split(", "):
+                what, both = re.fullmatch(r"(\w+)( of both)?", item).groups()
+                for number in stands_for.get(what) or {int(what)}:
+                    inputs = (1,) if questions[number][3] == "1" else (0, 1) if both else (0,)
+                    due |= {(number, input) for input in inputs}
+            self.assertEqual(given[call], due, call)
+
+    def test_every_answer_has_a_vector(self):
+        given = {(vector.call, vector.answer[0]) for vector in VECTORS}
+        self.assertEqual(given, {(call, answer) for call, (_, answers) in CALLS.items() for answer in answers})
+
+    def test_it_stands_alone(self):
+        texts = {"FORMAT.md": DOCUMENT, "README.md": (FOLDER / "README.md").read_text(encoding="utf-8")}
+        for name, text in texts.items():
+            self.assertEqual([line for line in text.split("\n") if len(line) > 130], [], name)
+            self.assertIsNone(re.search(r"\./poddreshi|crates|tests/|examples/|\bgate\b|\brt\b|\.rt\b", text), name)
+
+    def test_a_vector_with_a_slip_is_not_passed_over(self):
+        for text in SLIPS:
+            with self.assertRaises(Malformed, msg=text):
+                parse_vector(text)
+
+
+def catches():
+    for reader in WRONG:
+        vector = first_failed(reader())
+        print(f"{reader.__name__}: {reader.mistake}")
+        print(f"    {failure(reader(), vector)}" if vector else "    NO VECTOR CATCHES IT")
+
+
+if __name__ == "__main__":
+    if sys.argv[1:] == ["--catches"]:
+        catches()
+    else:
+        unittest.main()
