@@ -105,7 +105,8 @@ module _ (n : ℕ) {parent : ℕ → ℕ} (forest : Forest parent) where
   starts-own v = omega (arith, ap (total (size n parent)) (none-before parent v (suc v) (omega arith)))
 
   -- One window more, v, from the front: it counts for its parent and for no other.
-  one-more : (p : ℕ → Bool) (v : ℕ) → total (size n parent) (passing p 0 (suc v)) ≡ total (size n parent) (passing p 0 v) + total (size n parent) (passing p v 1)
+  one-more : (p : ℕ → Bool) (v : ℕ) → total (size n parent) (passing p 0 (suc v)) ≡ total (size n parent) (passing p 0 v) + total (size n parent)
+      (passing p v 1)
   one-more p v =
       let e : suc v ≡ v + 1 = omega arith in
       let z : 0 + v ≡ v = omega arith in

@@ -50,17 +50,27 @@ module _ {parent : ℕ → ℕ} (forest : Forest parent) (n : ℕ) (components�
           let own : parent v ≡ v = sym same ∙ e in
           record {
             counted = rw (add-one v) (omega (arith, s .counted, count-true (isRoot parent) v (fixed-root forest v own)));
-            components-filling = filling-turn (component parent) n components₀ components v roots c-room h (s .counted ∙ ap (count (isRoot parent)) (sym (fixed-is-root forest v own))) (s .components-filling);
+            components-filling = filling-turn (component parent) n components₀ components v roots c-room h (s .counted
+                ∙ ap (count (isRoot parent)) (sym (fixed-is-root forest v own))) (s .components-filling);
             depths-filling = filling-turn (depth parent) n depths₀ depths v 0 d-room h (sym (fixed-depth forest v own)) (s .depths-filling);
           }
 
       -- A child is in its parent's, one deeper.
-      pub leveled-child : (p ≡ v → ⊥) → Leveled parent n components₀ depths₀ (set components v (getD components p 0)) (set depths v (getD depths p 0 + 1)) roots (v + 1)
+      pub leveled-child : (p ≡ v → ⊥) → Leveled parent n components₀ depths₀ (set components v (getD components p 0)) (set depths v
+          (getD depths p 0 + 1)) roots (v + 1)
       leveled-child other =
           let below : parent v < v = omega (arith, forest .parent-le v) in
           let before : p < v = omega arith in
           record {
             counted = rw (add-one v) (omega (arith, s .counted, count-false (isRoot parent) v (below-not-root forest v below)));
-            components-filling = filling-turn (component parent) n components₀ components v (getD components p 0) c-room h (filling-at (component parent) n components₀ components v p 0 before (s .components-filling) ∙ (ap (component parent) same ∙ root-component forest (parent v) v (root-of-parent forest v))) (s .components-filling);
-            depths-filling = filling-turn (depth parent) n depths₀ depths v (getD depths p 0 + 1) d-room h (omega (arith, filling-at (depth parent) n depths₀ depths v p 0 before (s .depths-filling), ap (depth parent) same, depth-step forest v below)) (s .depths-filling);
+            components-filling = filling-turn (component parent) n components₀ components v (getD components p 0) c-room h (filling-at
+                (component parent) n components₀ components v p 0 before (s .components-filling) ∙ (ap (component parent) same
+                ∙ root-component forest (parent v) v (root-of-parent forest v))) (s .components-filling);
+            depths-filling = filling-turn (depth parent) n depths₀ depths v (getD depths p 0 + 1) d-room h (omega (
+              arith,
+              filling-at
+                  (depth parent) n depths₀ depths v p 0 before (s .depths-filling),
+              ap (depth parent) same,
+              depth-step forest v below,
+            )) (s .depths-filling);
           }

@@ -1,14 +1,14 @@
 -- The parent function that a table gives: a forest, whatever the table holds; and the parents that it holds, where none of them
 -- points behind.
 -- Assumes nothing.
-use Prim.Native.Nat.{ℕ, _≤_, _<_}
+use Prim.Native.Nat.{ℕ, _≤_, _<_, min}
 use mathlib.Core.Path.{_≡_}
 use mathlib.Core.List.{List}
 use native.Mathlib.Omega.{arith}
 use lib.ListN.{length, getD}
 use Rattle.sequences.specs.Table.{Holds}
 use Rattle.interval_graph.specs.Forest.{Forest}
-use Rattle.forest.specs.Parents.{parentIn}
+use Rattle.forest.specs.Parents.{parentIn, covered}
 
 pub table-forest : (parents : List ℕ) → Forest (parentIn parents)
 unfolding parentIn
@@ -18,3 +18,10 @@ table-forest parents = record { parent-le = λ v. omega arith }
 pub held-parents : {parent : ℕ → ℕ} → Forest parent → (n : ℕ) (parents : List ℕ) → Holds parents parent n → (v : ℕ) → v < n → parentIn parents v ≡ parent v
 unfolding parentIn
 held-parents forest n parents held v h = omega (arith, held .at v h, forest .parent-le v)
+
+-- Where every table has room for as many, all the entries asked for are gone through.
+pub covered-all : (n first second : ℕ) → n ≤ 2048 → n ≤ first → n ≤ second → covered n first second ≡ n
+covered-all n first second few a b = omega arith
+
+pub covered-three : (n first second third : ℕ) → n ≤ 2048 → n ≤ first → n ≤ second → n ≤ third → min (covered n first second) third ≡ n
+covered-three n first second third few a b c = rw (covered-all n first second few a b) (omega arith)

@@ -45,7 +45,8 @@ module _ {parent : ℕ → ℕ} (forest : Forest parent) (n p v k : ℕ) (h : v 
     root-start root = sym (start-root n forest v (omega (arith, forest .parent-le v)))
 
     -- The turn, where `next′` has for each window before v where its next child's list begins, with v among the children.
-    turn : (next′ : List ℕ) (start′ : ℕ) → n ≤ length next₀ → n ≤ length ranks₀ → start′ ≡ start n parent v → length next′ ≡ length next → ((u : ℕ) → u < v → getD next′ u 0 ≡ startsTo n parent (suc v) u) → Ranked n parent next₀ ranks₀ (set next′ v start′) (set ranks v (start′ + k - 1)) (v + 1)
+    turn : (next′ : List ℕ) (start′ : ℕ) → n ≤ length next₀ → n ≤ length ranks₀ → start′ ≡ start n parent v → length next′ ≡ length next → ((u : ℕ) →
+        u < v → getD next′ u 0 ≡ startsTo n parent (suc v) u) → Ranked n parent next₀ ranks₀ (set next′ v start′) (set ranks v (start′ + k - 1)) (v + 1)
     turn next′ start′ room fits begins kept earlier =
         record {
           filling = filling-turn (rank n parent) n ranks₀ ranks v (start′ + k - 1) fits h (omega (arith, rank-size n forest v h)) (s .filling);
@@ -65,7 +66,8 @@ module _ {parent : ℕ → ℕ} (forest : Forest parent) (n p v k : ℕ) (h : v 
           (λ u uv. s .starts u uv ∙ sym (starts-other n forest u v (λ l e. omega arith)))
 
       -- A child's size is set aside in its parent's list.
-      pub ranked-child : p < v → Ranked n parent next₀ ranks₀ (set (set next p (getD next p 0 + k)) v (getD next p 0)) (set ranks v (getD next p 0 + k - 1)) (v + 1)
+      pub ranked-child : p < v → Ranked n parent next₀ ranks₀ (set (set next p (getD next p 0 + k)) v (getD next p 0)) (set ranks v
+          (getD next p 0 + k - 1)) (v + 1)
       ranked-child below =
           turn (set next p x) (getD next p 0) room fits (child-start below) (length-set next p x)
           (λ u uv.

@@ -63,4 +63,5 @@ module _ (n : ℕ) (overlaps : ℕ → ℕ → Bool) where
   -- there"; "earliest" means the smallest position.
   pub record EarliestShortest (a b : ℕ) (l : List ℕ) : Type 0 where
     pub shortest : Shortest n overlaps a b l
-    pub earliest : (m : List ℕ) → Shortest n overlaps a b m → (i : ℕ) → i ≤ handovers l → getD (fromLater a b l) i 0 ≤ getD (fromLater a b m) i 0
+    pub earliest : (m : List ℕ) → Shortest n overlaps a b m → (i : ℕ) → i ≤ handovers l →
+        getD (fromLater a b l) i 0 ≤ getD (fromLater a b m) i 0

@@ -68,7 +68,9 @@ module _ {file : List ℕ} {windows : ℕ} (plan : AcceptedWindows file windows)
         (least-unique (λ u. overlaps file u v) v r (found .high) (λ h. bounded-past r v h within (found .past h))
         (λ j h. behind-turn j v h (omega (arith, found .high)) (omega arith) within))
 
-  pub fingers-turn : (parents₀ parents : List ℕ) (finger v r : ℕ) → windows ≤ length parents₀ → v < windows → FirstPast (boundAt file) (offsetAt file v) finger v r → Fingers file windows parents₀ parents finger v → Fingers file windows parents₀ (set parents v r) r (v + 1)
+  pub fingers-turn : (parents₀ parents : List ℕ) (finger v r : ℕ) → windows ≤ length parents₀ → v < windows →
+      FirstPast (boundAt file) (offsetAt file v) finger v r → Fingers file windows parents₀ parents finger v →
+      Fingers file windows parents₀ (set parents v r) r (v + 1)
   fingers-turn parents₀ parents finger v r room within found s =
       record {
         left = omega (arith, found .high);
@@ -126,7 +128,12 @@ module _ {file : List ℕ} {windows : ℕ} {offsets : List ℕ} (p : Prepared fi
         upper =
             ⊎-elim
             (λ c. ⊎-elim
-            (λ h. absurd (true-false-absurd _ (c .2) (bounded-before (p .plan) u farthest (c .0) (c .1) (omega (arith, held farthest (c .1), found .past farthest h (omega (arith, c .1, windows-few (p .plan))))))))
+            (λ h. absurd (true-false-absurd _ (c .2) (bounded-before (p .plan) u farthest (c .0) (c .1) (omega (
+              arith,
+              held farthest
+                  (c .1),
+              found .past farthest h (omega (arith, c .1, windows-few (p .plan))),
+            )))))
             (λ h. h)
             (lt-or-ge r farthest))
             (λ e. omega (arith, e, found-late))
@@ -135,7 +142,8 @@ module _ {file : List ℕ} {windows : ℕ} {offsets : List ℕ} (p : Prepared fi
         lower : r ≤ farthest
         lower =
             ⊎-elim
-            (λ h. overlap-last (windows-order (p .plan)) u r h found-window (bounded-past (p .plan) u r h found-window (omega (arith, held r found-window, found .before (omega arith)))))
+            (λ h. overlap-last (windows-order (p .plan)) u r h found-window (bounded-past (p .plan) u r h found-window (omega
+            (arith, held r found-window, found .before (omega arith)))))
             (λ h. omega (arith, last-ge (windows-order (p .plan)) u))
             (lt-or-ge u r)
 

@@ -25,14 +25,24 @@ unfolding boundAt
 bound-read file v r w same e = e ∙ ap boundOf same
 
 -- The table of offsets that the pass leaves, where it was full of the greatest number before.
-pub prepared-read : (file : List ℕ) (windows : ℕ) (offsets : List ℕ) → AcceptedWindows file windows → offsets ≡ overwritten (replicate greatestCount 4294967295) (table (offsetAt file) windows) → Prepared file windows offsets
+pub prepared-read : (file : List ℕ) (windows : ℕ) (offsets : List ℕ) → AcceptedWindows file windows →
+    offsets ≡ overwritten (replicate greatestCount 4294967295) (table (offsetAt file) windows) → Prepared file windows offsets
 prepared-read file windows offsets p e = filled greatestCount (windows-few p) e refl
   where
-    filled : (n : ℕ) → windows ≤ n → offsets ≡ overwritten (replicate n 4294967295) (table (offsetAt file) windows) → n ≡ greatestCount → Prepared file windows offsets
+    filled : (n : ℕ) → windows ≤ n → offsets ≡ overwritten (replicate n 4294967295) (table (offsetAt file) windows) → n ≡ greatestCount →
+        Prepared file windows offsets
     filled n room written size =
         record {
           plan = p;
-          offsets-held = overwritten-holds (offsetAt file) windows (replicate n 4294967295) offsets (omega (arith, length-replicate {A = ℕ} n 4294967295)) written;
-          long = rw written (omega (arith, size, length-overwritten (replicate n 4294967295) (table (offsetAt file) windows) (omega (arith, length-replicate {A = ℕ} n 4294967295, length-table (offsetAt file) windows)), length-replicate {A = ℕ} n 4294967295));
-          rest = λ k h within. rw written (overwritten-past (offsetAt file) windows (replicate n 4294967295) k 0 h ∙ getD-replicate n k 4294967295 0 (omega arith));
+          offsets-held = overwritten-holds (offsetAt file) windows (replicate n 4294967295) offsets (omega
+              (arith, length-replicate {A = ℕ} n 4294967295)) written;
+          long = rw written (omega (
+            arith,
+            size,
+            length-overwritten (replicate n 4294967295) (table (offsetAt file) windows) (omega
+                (arith, length-replicate {A = ℕ} n 4294967295, length-table (offsetAt file) windows)),
+            length-replicate {A = ℕ} n 4294967295,
+          ));
+          rest = λ k h within. rw written (overwritten-past (offsetAt file) windows (replicate n 4294967295) k 0 h
+              ∙ getD-replicate n k 4294967295 0 (omega arith));
         }

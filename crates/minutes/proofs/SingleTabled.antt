@@ -63,7 +63,8 @@ module _ (file : List ℕ) (room : ℕ) (enough : greatestCount ≤ room) where
   from-validation (Validation.Refused other) refusal e = cc
 
   -- A refusal is the validation's.
-  pub table-refuses : (answer : TableAnswer) (refusal : Refusal) → answer ≡ tableAnswerOf file room → answer ≡ Refused refusal → validateAnswerOf file ≡ Validation.Refused refusal
+  pub table-refuses : (answer : TableAnswer) (refusal : Refusal) → answer ≡ tableAnswerOf file room → answer ≡ Refused refusal →
+      validateAnswerOf file ≡ Validation.Refused refusal
   table-refuses answer refusal e f =
       from-validation (validateAnswerOf file) refusal (sym f ∙ (e ∙ by-validation (validateAnswerOf file) refl))
 
@@ -72,7 +73,8 @@ pub table-asked : (file : List ℕ) (k j : ℕ) (answer : TableAnswer) → answe
 table-asked file k j answer e same = e ∙ ap (tableAnswerOf file) same
 
 -- A table that is filled is that of an accepted plan, with room for an entry for each window.
-pub table-fills : (file : List ℕ) (room : ℕ) (answer : TableAnswer) (windows : ℕ) → answer ≡ tableAnswerOf file room → answer ≡ Filled windows → AcceptedWindows file windows × (windows ≤ room)
+pub table-fills : (file : List ℕ) (room : ℕ) (answer : TableAnswer) (windows : ℕ) → answer ≡ tableAnswerOf file room → answer ≡ Filled windows →
+    AcceptedWindows file windows × (windows ≤ room)
 table-fills file room answer windows e f = by-answer (validateAnswerOf file) refl
   where
     by-answer : (v : Validation) → v ≡ validateAnswerOf file → AcceptedWindows file windows × (windows ≤ room)
@@ -92,7 +94,8 @@ pub record Tabled (file : List ℕ) (windows : ℕ) (f : ℕ → ℕ) (entries :
   pub held : Holds entries f windows
 
 -- That is what such a call leaves where it refuses nothing.
-pub tabled : (file : List ℕ) (f : ℕ → ℕ) (before after : List ℕ) (answer : TableAnswer) (windows : ℕ) → answer ≡ tableAnswerOf file (length before) → answer ≡ Filled windows → after ≡ afterTable answer f before → Tabled file windows f after
+pub tabled : (file : List ℕ) (f : ℕ → ℕ) (before after : List ℕ) (answer : TableAnswer) (windows : ℕ) → answer ≡ tableAnswerOf file (length before) →
+    answer ≡ Filled windows → after ≡ afterTable answer f before → Tabled file windows f after
 unfolding afterTable
 tabled file f before after answer windows e filled w =
     let fills = table-fills file (length before) answer windows e filled in

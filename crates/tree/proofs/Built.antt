@@ -76,7 +76,14 @@ module _ (n p c d r l t : ℕ) where
   rooms-fit : Rooms n p c d r l t → tablesFit n p c d r l t ≡ true
   unfolding tablesFit
   rooms-fit s =
-      rw (le-leb n p (s .parents-room), le-leb n c (s .components-room), le-leb n d (s .depths-room), le-leb n r (s .ranks-room), le-leb n l (s .last-ranks-room))
+      rw (
+        le-leb n p (s .parents-room),
+        le-leb n c (s .components-room),
+        le-leb n d (s .depths-room),
+        le-leb n r (s .ranks-room),
+        le-leb n l
+            (s .last-ranks-room),
+      )
       (le-leb (tagLength * n) t (s .tags-room))
 
   fit-rooms : tablesFit n p c d r l t ≡ true → Rooms n p c d r l t
@@ -120,17 +127,20 @@ module _ {file : List ℕ} {windows : ℕ} (plan : AcceptedWindows file windows)
       e ∙ rw (all, ← plan .counted) (count-cong _ _ windows (root-test-agrees (tree (overlaps file)) same))
 
   module _ (before now : List ℕ) where
-    pub components-filled : now ≡ overwritten before (table (Forest.component (parentIn parents)) k) → k ≡ windows → now ≡ overwritten before (table (componentOf file) windows)
+    pub components-filled : now ≡ overwritten before (table (Forest.component (parentIn parents)) k) → k ≡ windows →
+        now ≡ overwritten before (table (componentOf file) windows)
     unfolding componentOf
     components-filled e all =
         e ∙ ap (overwritten before) (rw all (table-cong _ _ windows (component-agrees (tree (overlaps file)) same)))
 
-    pub depths-filled : now ≡ overwritten before (table (Forest.depth (parentIn parents)) k) → k ≡ windows → now ≡ overwritten before (table (depthOf file) windows)
+    pub depths-filled : now ≡ overwritten before (table (Forest.depth (parentIn parents)) k) → k ≡ windows →
+        now ≡ overwritten before (table (depthOf file) windows)
     unfolding depthOf
     depths-filled e all =
         e ∙ ap (overwritten before) (rw all (table-cong _ _ windows (depth-agrees (tree (overlaps file)) same)))
 
-    pub ranks-filled : now ≡ overwritten before (table (Forest.rank k (parentIn parents)) k) → k ≡ windows → now ≡ overwritten before (table (rankOf file) windows)
+    pub ranks-filled : now ≡ overwritten before (table (Forest.rank k (parentIn parents)) k) → k ≡ windows →
+        now ≡ overwritten before (table (rankOf file) windows)
     unfolding rankOf
     ranks-filled e all =
         e
@@ -140,19 +150,23 @@ module _ {file : List ℕ} {windows : ℕ} (plan : AcceptedWindows file windows)
         (λ v h. rank-agrees (tree (overlaps file)) same v h ∙ ap (λ n. rank n (overlaps file) v) (plan .counted))))
 
 -- Ranks looked up by lasts are the ranks of the lasts.
-module _ {file : List ℕ} {windows : ℕ} (plan : AcceptedWindows file windows) {lasts ranks : List ℕ} (lasting : Holds lasts (lastOf file) windows) (ranking : Holds ranks (rankOf file) windows) where
+module _ {file : List ℕ} {windows : ℕ} (plan : AcceptedWindows file windows) {lasts ranks : List ℕ} (lasting : Holds lasts (lastOf file) windows)
+    (ranking : Holds ranks (rankOf file) windows) where
   last-rank-found : (v : ℕ) → v < windows → getD ranks (getD lasts v 0) 0 ≡ lastRankOf file v
   unfolding lastOf rankOf lastRankOf lastRank
   last-rank-found v h =
       let within : last (windowCount file) (overlaps file) v < windows = rw (← plan .counted) (last-below (windows-order plan) v h) in
       rw (lasting .at v h) (ranking .at _ within)
 
-  pub last-ranks-filled : (k : ℕ) (before now : List ℕ) → now ≡ overwritten before (table (lookedUp ranks lasts) k) → k ≡ windows → now ≡ overwritten before (table (lastRankOf file) windows)
+  pub last-ranks-filled : (k : ℕ) (before now : List ℕ) → now ≡ overwritten before (table (lookedUp ranks lasts) k) → k ≡ windows →
+      now ≡ overwritten before (table (lastRankOf file) windows)
   last-ranks-filled k before now e all =
       e ∙ ap (overwritten before) (rw all (table-cong _ _ windows last-rank-found))
 
 -- The four tables that tags are made of hold the numbers of the windows, and none is too great.
-module _ {file : List ℕ} {windows : ℕ} (plan : AcceptedWindows file windows) (number : ℕ) (named : number ≡ planNumber file) {components depths ranks lastRanks : List ℕ} (c : Holds components (componentOf file) windows) (d : Holds depths (depthOf file) windows) (r : Holds ranks (rankOf file) windows) (l : Holds lastRanks (lastRankOf file) windows) where
+module _ {file : List ℕ} {windows : ℕ} (plan : AcceptedWindows file windows) (number : ℕ)
+    (named : number ≡ planNumber file) {components depths ranks lastRanks : List ℕ} (c : Holds components (componentOf file) windows) (d : Holds depths
+    (depthOf file) windows) (r : Holds ranks (rankOf file) windows) (l : Holds lastRanks (lastRankOf file) windows) where
   numbers-held : (v : ℕ) → v < windows → numbersIn number components depths ranks lastRanks v ≡ numbersAt file v
   unfolding numbersAt numbersOf componentOf depthOf rankOf lastRankOf
   numbers-held v h = rw (named, c .at v h, d .at v h, r .at v h, l .at v h)
@@ -190,7 +204,8 @@ module _ (file : List ℕ) (p c d r l t : ℕ) (answer : Validation) (validated 
         rw (← validated-windows file answer validated plan windows e .counted)
         (one-more-no file room Refused _ answer validated plan windows e short)
 
-    pub build-built : (number count : ℕ) → number ≡ planNumber file → tablesFit windows p c d r l t ≡ true → count ≡ componentCount file → Built number windows count ≡ buildAnswerOf file p c d r l t
+    pub build-built : (number count : ℕ) → number ≡ planNumber file → tablesFit windows p c d r l t ≡ true → count ≡ componentCount file →
+        Built number windows count ≡ buildAnswerOf file p c d r l t
     unfolding buildAnswerOf buildQuestions question room
     build-built number count named fits counted =
         rw (counted, named, ← validated-windows file answer validated plan windows e .counted)
@@ -224,22 +239,26 @@ module _ (file : List ℕ) (p c d r l t : ℕ) (answer : TableAnswer) (asked : a
   pub table-build-refused : (refusal : Refusal) → answer ≡ TableAnswer.Refused refusal → Refused refusal ≡ buildAnswerOf file p c d r l t
   table-build-refused refusal e = ap (built file) (sym e ∙ asked) ∙ table-built file p c d r l t
 
-  pub table-build-filled : (windows number count : ℕ) → answer ≡ TableAnswer.Filled windows → number ≡ planNumber file → count ≡ componentCount file → Built number windows count ≡ buildAnswerOf file p c d r l t
+  pub table-build-filled : (windows number count : ℕ) → answer ≡ TableAnswer.Filled windows → number ≡ planNumber file → count ≡ componentCount file →
+      Built number windows count ≡ buildAnswerOf file p c d r l t
   table-build-filled windows number count e named counted =
       rw (named, counted) (ap (built file) (sym e ∙ asked) ∙ table-built file p c d r l t)
 
 -- Tables as long as any plan's leave the tag file's room to be asked for.
-tables-hold : (windows t : ℕ) → windows ≤ greatestCount → tablesFit windows greatestCount greatestCount greatestCount greatestCount greatestCount t ≡ leb (tagLength * windows) t
+tables-hold : (windows t : ℕ) → windows ≤ greatestCount →
+    tablesFit windows greatestCount greatestCount greatestCount greatestCount greatestCount t ≡ leb (tagLength * windows) t
 unfolding tablesFit
 tables-hold windows t few = rw (le-leb windows greatestCount few)
 
-accepted-tags : (file : List ℕ) (t plan windows : ℕ) → Validation.Accepted plan windows ≡ validateAnswerOf file → buildAnswerOf file greatestCount greatestCount greatestCount greatestCount greatestCount t ≡ tagsAnswerOf file t
+accepted-tags : (file : List ℕ) (t plan windows : ℕ) → Validation.Accepted plan windows ≡ validateAnswerOf file →
+    buildAnswerOf file greatestCount greatestCount greatestCount greatestCount greatestCount t ≡ tagsAnswerOf file t
 unfolding buildAnswerOf buildQuestions tagsAnswerOf tagsQuestions roomQuestion
 accepted-tags file t plan windows e =
     let p = validated-windows file (Validation.Accepted plan windows) e plan windows refl in
     rw (tables-hold (windowCount file) t (omega (arith, p .counted, windows-few p)))
 
-refused-tags : (file : List ℕ) (t : ℕ) (refusal : Refusal) → Validation.Refused refusal ≡ validateAnswerOf file → buildAnswerOf file greatestCount greatestCount greatestCount greatestCount greatestCount t ≡ tagsAnswerOf file t
+refused-tags : (file : List ℕ) (t : ℕ) (refusal : Refusal) → Validation.Refused refusal ≡ validateAnswerOf file →
+    buildAnswerOf file greatestCount greatestCount greatestCount greatestCount greatestCount t ≡ tagsAnswerOf file t
 unfolding tagsAnswerOf tagsQuestions
 refused-tags file t refusal e =
     sym (build-refused file greatestCount greatestCount greatestCount greatestCount greatestCount t _ e refusal refl)
@@ -248,6 +267,7 @@ refused-tags file t refusal e =
 pub tags-built : (file : List ℕ) (t : ℕ) → buildAnswerOf file greatestCount greatestCount greatestCount greatestCount greatestCount t ≡ tagsAnswerOf file t
 tags-built file t = by-validation (validateAnswerOf file) refl
   where
-    by-validation : (v : Validation) → v ≡ validateAnswerOf file → buildAnswerOf file greatestCount greatestCount greatestCount greatestCount greatestCount t ≡ tagsAnswerOf file t
+    by-validation : (v : Validation) → v ≡ validateAnswerOf file →
+        buildAnswerOf file greatestCount greatestCount greatestCount greatestCount greatestCount t ≡ tagsAnswerOf file t
     by-validation (Validation.Accepted plan windows) e = accepted-tags file t plan windows e
     by-validation (Validation.Refused refusal) e = refused-tags file t refusal e

@@ -40,13 +40,15 @@ unfolding answers
 plan-12-tags = refl
 
 -- Tables that just hold the windows, and one entry or one byte less.
-pub plan-12-built : buildAnswerOf file 7 7 7 7 7 70 ∷ buildAnswerOf file 7 7 6 7 7 70 ∷ buildAnswerOf file 7 7 7 7 7 69 ∷ tagsAnswerOf file 70 ∷ tagsAnswerOf file 69 ∷ []
+pub plan-12-built : buildAnswerOf file 7 7 7 7 7 70 ∷ buildAnswerOf file 7 7 6 7 7 70 ∷ buildAnswerOf file 7 7 7 7 7 69 ∷ tagsAnswerOf file 70 ∷ tagsAnswerOf
+    file 69 ∷ []
     ≡ Built 12 7 2 ∷ Refused (refusalBy 8) ∷ Refused (refusalBy 8) ∷ Built 12 7 2 ∷ Refused (refusalBy 8) ∷ []
 unfolding answers
 plan-12-built = refl
 
 -- What lies past the written entries stays, and a refusal alters nothing.
-pub plan-12-after : afterBuild (Built 12 2 1) (rankOf file) (9 ∷ 9 ∷ 9 ∷ []) ∷ afterBuild (Refused (refusalBy 8)) (rankOf file) (9 ∷ []) ∷ afterTags (Refused (refusalBy 8)) (numbersAt file) (9 ∷ []) ∷ []
+pub plan-12-after : afterBuild (Built 12 2 1) (rankOf file) (9 ∷ 9 ∷ 9 ∷ []) ∷ afterBuild (Refused (refusalBy 8)) (rankOf file) (9 ∷ []) ∷ afterTags
+    (Refused (refusalBy 8)) (numbersAt file) (9 ∷ []) ∷ []
     ≡ (5 ∷ 0 ∷ 9 ∷ []) ∷ (9 ∷ []) ∷ (9 ∷ []) ∷ []
 unfolding answers
 plan-12-after = refl

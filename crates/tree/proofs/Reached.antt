@@ -55,7 +55,8 @@ module _ (l : List ℕ) (n at : ℕ) where
     pub running-ends : n ≤ last + 1 → RunEnd l n at last
     running-ends done = record { low = s .low; high = s .high; same = s .same; other = λ h e. omega arith }
 
-module _ {file : List ℕ} {windows : ℕ} (plan : AcceptedWindows file windows) {components depths : List ℕ} (c : Holds components (componentOf file) windows) (d : Holds depths (depthOf file) windows) (at last : ℕ) (s : RunEnd components windows at last) where
+module _ {file : List ℕ} {windows : ℕ} (plan : AcceptedWindows file windows) {components depths : List ℕ} (c : Holds components
+    (componentOf file) windows) (d : Holds depths (depthOf file) windows) (at last : ℕ) (s : RunEnd components windows at last) where
   here : (v : ℕ) → v < windows → getD components v 0 ≡ component (overlaps file) v
   unfolding componentOf
   here v h = c .at v h
@@ -76,7 +77,8 @@ module _ {file : List ℕ} {windows : ℕ} (plan : AcceptedWindows file windows)
       (λ l. let within : end < windows = lastInComponent-window windows (overlaps file) at start in
       absurd (s .other (omega arith)
       (here (suc last) (omega arith)
-      ∙ (component-contiguous (windows-order plan) at (suc last) end (omega (arith, s .low)) l within (sym (lastInComponent-component windows (overlaps file) at))
+      ∙ (component-contiguous (windows-order plan) at (suc last) end (omega (arith, s .low)) l within (sym (lastInComponent-component windows
+      (overlaps file) at))
       ∙ sym (here at start)))))
       (λ l. l) (lt-or-ge last end))
 

@@ -38,15 +38,24 @@ pub tagged-start : (numbers : ℕ → Numbers) (windows : ℕ) (tags₀ : List �
 unfolding overwritten tagFile flatMap table
 tagged-start numbers windows tags₀ = record { within = omega arith; written = refl; long = refl }
 
-pub tagged-end : (numbers : ℕ → Numbers) (windows : ℕ) (tags₀ tags : List ℕ) (v : ℕ) → windows ≤ v → Tagged numbers windows tags₀ tags v → tags ≡ overwritten tags₀ (tagFile numbers windows)
+pub tagged-end : (numbers : ℕ → Numbers) (windows : ℕ) (tags₀ tags : List ℕ) (v : ℕ) → windows ≤ v → Tagged numbers windows tags₀ tags v →
+    tags ≡ overwritten tags₀ (tagFile numbers windows)
 tagged-end numbers windows tags₀ tags v done s = let e : v ≡ windows = omega (arith, s .within) in rw e at (s .written)
 
 -- A tag whose numbers fit is written at its place, to the front of what is left of the table.
 module _ (numbers : ℕ → Numbers) (windows v : ℕ) (h : v < windows) (fit : withinLimit (numbers v) ≡ true) where
-  pub tagged-turn : (tags₀ tags part : List ℕ) (answer : WriteAnswer) → tagLength * windows ≤ length tags₀ → answer ≡ writeAnswerOf (numbers v) (take (length tags - tagLength * v) (drop (tagLength * v) tags)) → part ≡ afterWrite answer (numbers v) (take (length tags - tagLength * v) (drop (tagLength * v) tags)) → Tagged numbers windows tags₀ tags v → Tagged numbers windows tags₀ (putMid (tagLength * v) (length tags - tagLength * v) tags part) (v + 1)
+  pub tagged-turn : (tags₀ tags part : List ℕ) (answer : WriteAnswer) → tagLength * windows ≤ length tags₀ →
+      answer ≡ writeAnswerOf (numbers v) (take (length tags - tagLength * v) (drop (tagLength * v) tags)) →
+      part ≡ afterWrite answer (numbers v) (take (length tags - tagLength * v) (drop (tagLength * v) tags)) → Tagged numbers windows tags₀ tags v →
+      Tagged numbers windows tags₀ (putMid (tagLength * v) (length tags - tagLength * v) tags part) (v + 1)
   unfolding afterWrite
   tagged-turn tags₀ tags part answer room answered stored s =
-      record { within = omega arith; written = whole; long = rw whole (length-overwritten tags₀ (tagFile numbers (v + 1)) (omega (arith, length-tagFile numbers (v + 1)))) }
+      record {
+        within = omega arith;
+        written = whole;
+        long = rw whole (length-overwritten tags₀ (tagFile numbers (v + 1)) (omega
+            (arith, length-tagFile numbers (v + 1))));
+      }
     where
       rest : List ℕ
       rest = drop (tagLength * v) tags

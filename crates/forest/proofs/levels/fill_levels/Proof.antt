@@ -12,7 +12,8 @@ use Rattle.forest.proofs.levels.fill_levels.Statement.{statement}
 use Rattle.forest.proofs.levels.fill_levels.Tie as tie
 
 abbrev Inv-loop : tie.InvT-loop
-Inv-loop parents entries components₀ depths₀ within end roots₀ position₀ components depths roots position = Leveled (parentIn parents) end components₀ depths₀ components depths roots position
+Inv-loop parents entries components₀ depths₀ within end roots₀ position₀ components depths roots position = Leveled
+    (parentIn parents) end components₀ depths₀ components depths roots position
 
 abbrev μ-loop : tie.MeasureT-loop
 μ-loop parents entries components₀ depths₀ within end roots₀ position₀ components depths roots position = end - position
@@ -69,7 +70,11 @@ slice-read-depths : tie.Need-slice-read-depths Inv-loop μ-loop
 slice-read-depths c = search needs
 
 add-depths : tie.Need-add-depths Inv-loop μ-loop
-add-depths c = omega (arith, depth-few (table-forest _) _ _ _ (c .before .before .before .before .before .loop .inv) (c .before .before .before .parent-at .result) (omega arith))
+add-depths c = omega (
+  arith,
+  depth-few (table-forest _) _ _ _ (c .before .before .before .before .before .loop .inv)
+      (c .before .before .before .parent-at .result) (omega arith),
+)
 
 mul-depths-3 : tie.Need-mul-depths-3 Inv-loop μ-loop
 mul-depths-3 c = search needs
@@ -84,8 +89,10 @@ loop-less : tie.Need-loop-less Inv-loop μ-loop
 loop-less c = search needs
 
 loop-again : tie.Need-loop-again Inv-loop μ-loop
-loop-again c = let turn = leveled-child (table-forest _) _ _ _ (c .before .before .before .loop .inv) _ (c .before .parent-at .ensures .0) (c .before .before .loop-test .taken) (omega arith) (omega arith) in
-    let first = leveled-root (table-forest _) _ _ _ (c .before .before .before .loop .inv) _ (c .before .parent-at .ensures .0) (c .before .before .loop-test .taken) (omega arith) (omega arith) in
+loop-again c = let turn = leveled-child (table-forest _) _ _ _ (c .before .before .before .loop .inv) _ (c .before .parent-at .ensures .0)
+    (c .before .before .loop-test .taken) (omega arith) (omega arith) in
+    let first = leveled-root (table-forest _) _ _ _ (c .before .before .before .loop .inv) _ (c .before .parent-at .ensures .0)
+    (c .before .before .loop-test .taken) (omega arith) (omega arith) in
     ⊎-elim (λ w. rw (w .1, w .2, w .3) (first (w .0 .taken))) (λ w. rw (w .3, w .4, w .5) (turn (w .0 .left))) (c .if1 .came)
 
 same-length : tie.Need-same-length Inv-loop μ-loop
@@ -97,7 +104,20 @@ same-length-2 c = search needs
 returns : tie.Need-returns Inv-loop μ-loop
 returns c = let s = c .before .loop .inv in
     let done = c .loop-test .left in
-    rw (← c .before .before .before .before .before .smaller .ensures, ← c .before .before .before .before .smaller2 .ensures, ← c .before .before .before .smaller3 .ensures, ← c .before .before .smaller4 .ensures) (leveled-end (table-forest _) _ _ _ s done, (filling-end _ _ _ _ _ done (s .components-filling), filling-end _ _ _ _ _ done (s .depths-filling)))
+    rw (
+      ← c .before .before .before .before .before .smaller .ensures,
+      ← c .before .before .before .before .smaller2 .ensures,
+      ← c .before .before
+          .before .smaller3 .ensures,
+      ← c .before .before .smaller4 .ensures,
+    ) (
+      leveled-end (table-forest _) _ _ _ s done,
+      (
+        filling-end _ _ _ _ _ done
+            (s .components-filling),
+        filling-end _ _ _ _ _ done (s .depths-filling),
+      ),
+    )
 
 pub fill-levels-spec : {M : Type 1} → statement M
 fill-levels-spec =

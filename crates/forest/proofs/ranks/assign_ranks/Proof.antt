@@ -39,7 +39,12 @@ slice-read-start c = search needs
 add-next : tie.Need-add-next Inv-loop μ-loop
 add-next c = let h = c .before .before .before .before .loop-test .taken in
     let k = c .before .before .before .before .before .before .before .before .before .before .pre .1 .1 .0 .at _ h in
-    omega (arith, list-few (table-forest _) _ _ _ _ h (c .before .before .before .parent-at .ensures .0) k, child-start (table-forest _) _ _ _ _ h (c .before .before .before .parent-at .ensures .0) k (c .before .before .before .before .before .loop .inv) (c .before .if1 .taken))
+    omega (
+      arith,
+      list-few (table-forest _) _ _ _ _ h (c .before .before .before .parent-at .ensures .0) k,
+      child-start (table-forest _) _ _ _ _ h
+          (c .before .before .before .parent-at .ensures .0) k (c .before .before .before .before .before .loop .inv) (c .before .if1 .taken),
+    )
 
 mul-next : tie.Need-mul-next Inv-loop μ-loop
 mul-next c = search needs
@@ -51,14 +56,16 @@ mul-next-2 : tie.Need-mul-next-2 Inv-loop μ-loop
 mul-next-2 c = search needs
 
 slice-write-next-2 : tie.Need-slice-write-next-2 Inv-loop μ-loop
-slice-write-next-2 c = ⊎-elim (λ w. rw (w .2) (simp length-set (omega (arith, c .before .before .before .before .loop .inv .long)))) (λ w. rw (w .1) (omega (arith, c .before .before .before .before .loop .inv .long))) (c .if1 .came)
+slice-write-next-2 c = ⊎-elim (λ w. rw (w .2) (simp length-set (omega (arith, c .before .before .before .before .loop .inv .long)))) (λ w. rw (w .1)
+    (omega (arith, c .before .before .before .before .loop .inv .long))) (c .if1 .came)
 
 add-ranks : tie.Need-add-ranks Inv-loop μ-loop
 add-ranks c = let h = c .before .before .before .before .loop-test .taken in
     let p = c .before .before .before .parent-at .ensures .0 in
     let s = c .before .before .before .before .before .loop .inv in
     let k = c .before .before .before .before .before .before .before .before .before .before .pre .1 .1 .0 .at _ h in
-    ⊎-elim (λ w. omega (arith, w .3, list-few (table-forest _) _ _ _ _ h p k, child-start (table-forest _) _ _ _ _ h p k s (w .0 .taken))) (λ w. omega (arith, w .2, list-few (table-forest _) _ _ _ _ h p k)) (c .before .if1 .came)
+    ⊎-elim (λ w. omega (arith, w .3, list-few (table-forest _) _ _ _ _ h p k, child-start (table-forest _) _ _ _ _ h p k s (w .0 .taken))) (λ w. omega
+    (arith, w .2, list-few (table-forest _) _ _ _ _ h p k)) (c .before .if1 .came)
 
 sub-ranks : tie.Need-sub-ranks Inv-loop μ-loop
 sub-ranks c = let h = c .before .before .before .before .loop-test .taken in
@@ -83,7 +90,8 @@ loop-again c = let h = c .before .before .before .before .loop-test .taken in
     let s = c .before .before .before .before .before .loop .inv in
     let q = c .before .before .before .before .before .before .before .before .before .before .pre in
     let k = q .1 .1 .0 .at _ h in
-    ⊎-elim (λ w. rw (w .2, w .3) (ranked-child (table-forest _) _ _ _ _ h p k s (q .1 .1 .1 .0) (q .1 .1 .1 .1) (w .0 .taken))) (λ w. rw (w .1, w .2) (ranked-root (table-forest _) _ _ _ _ h p k s (q .1 .1 .1 .0) (q .1 .1 .1 .1) (w .0 .left))) (c .before .if1 .came)
+    ⊎-elim (λ w. rw (w .2, w .3) (ranked-child (table-forest _) _ _ _ _ h p k s (q .1 .1 .1 .0) (q .1 .1 .1 .1) (w .0 .taken))) (λ w. rw (w .1, w .2)
+    (ranked-root (table-forest _) _ _ _ _ h p k s (q .1 .1 .1 .0) (q .1 .1 .1 .1) (w .0 .left))) (c .before .if1 .came)
 
 same-length : tie.Need-same-length Inv-loop μ-loop
 same-length c = search needs

@@ -40,7 +40,11 @@ slice-read-sizes-2 c = search needs
 
 add-sizes : tie.Need-add-sizes Inv-loop μ-loop
 add-sizes c = let s = c .before .before .before .before .before .loop .inv .0 in
-    omega (arith, sum-few (table-forest _) _ _ _ _ _ refl (c .before .before .before .before .loop-test .taken) s (c .before .before .before .parent-at .ensures .0) (c .before .before .if1 .taken))
+    omega (
+      arith,
+      sum-few (table-forest _) _ _ _ _ _ refl (c .before .before .before .before .loop-test .taken) s
+          (c .before .before .before .parent-at .ensures .0) (c .before .before .if1 .taken),
+    )
 
 mul-sizes-3 : tie.Need-mul-sizes-3 Inv-loop μ-loop
 mul-sizes-3 c = search needs
@@ -52,8 +56,11 @@ loop-less : tie.Need-loop-less Inv-loop μ-loop
 loop-less c = search needs
 
 loop-again : tie.Need-loop-again Inv-loop μ-loop
-loop-again c = let s = c .before .before .before .before .before .loop .inv in
-    (sized-child (table-forest _) _ _ _ _ _ refl (c .before .before .before .before .loop-test .taken) (s .0) (c .before .before .before .parent-at .ensures .0) (c .before .before .if1 .taken), simp length-set (s .1))
+loop-again c = let s = c .before .before .before .before .before .loop .inv in (
+  sized-child (table-forest _) _ _ _ _ _ refl (c .before .before .before .before .loop-test .taken) (s .0)
+      (c .before .before .before .parent-at .ensures .0) (c .before .before .if1 .taken),
+  simp length-set (s .1),
+)
 
 loop-less-2 : tie.Need-loop-less-2 Inv-loop μ-loop
 loop-less-2 c = search needs

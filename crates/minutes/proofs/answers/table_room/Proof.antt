@@ -24,7 +24,8 @@ by-requires : tie.Need-by-requires
 by-requires c κs = search needs
 
 returns-2 : tie.Need-returns-2
-returns-2 c = rw (c .by .ensures) (table-short _ _ _ (c .before .before .before .before .before .validate .ensures) _ _ (c .before .before .before .windows .given .1) (c .before .if1 .taken))
+returns-2 c = rw (c .by .ensures) (table-short _ _ _ (c .before .before .before .before .before .validate .ensures) _ _
+    (c .before .before .before .windows .given .1) (c .before .if1 .taken))
 
 returns-3 : tie.Need-returns-3
 returns-3 c = table-filled _ _ _ (c .before .before .before .before .validate .ensures) _ _ (c .before .before .windows .given .1) (c .if1 .left)

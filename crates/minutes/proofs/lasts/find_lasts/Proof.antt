@@ -45,7 +45,8 @@ loop-less c = search needs
 loop-again : tie.Need-loop-again Inv-loop μ-loop
 loop-again c = let d = c .before .before .before .before .before .before .before in
     let h = c .before .before .loop-test .taken in
-    filling-turn _ _ _ _ _ _ (d .pre .1) h (last-found (d .pre .0) _ _ h (rw (c .before .bound-at .ensures) at (c .last-before .ensures))) (c .before .before .before .loop .inv)
+    filling-turn _ _ _ _ _ _ (d .pre .1) h (last-found (d .pre .0) _ _ h (rw (c .before .bound-at .ensures) at (c .last-before .ensures)))
+    (c .before .before .before .loop .inv)
 
 same-length : tie.Need-same-length Inv-loop μ-loop
 same-length c = search needs

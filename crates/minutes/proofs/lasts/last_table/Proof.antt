@@ -31,7 +31,11 @@ same-length c = search needs
 
 returns-2 : tie.Need-returns-2
 unfolding afterTable
-returns-2 c = (sym (c .before .before .before .before .before .windows .given .1) ∙ c .before .before .before .before .before .before .before .table-room .ensures, c .before .before .fill-lasts .ensures)
+returns-2 c = (
+  sym (c .before .before .before .before .before .windows .given .1)
+      ∙ c .before .before .before .before .before .before .before .table-room .ensures,
+  c .before .before .fill-lasts .ensures,
+)
 
 pub last-table-spec : {M : Type 1} → statement M
 last-table-spec =

@@ -42,7 +42,8 @@ loop-less c = search needs
 
 loop-again : tie.Need-loop-again Inv-loop μ-loop
 loop-again c = let d = c .before .before .before .before .before .before in
-    fingers-turn (d .pre .0) _ _ _ _ _ (d .pre .1) (c .before .before .loop-test .taken) (rw (c .before .offset-at .ensures) at (c .first-past .ensures)) (c .before .before .before .loop .inv)
+    fingers-turn (d .pre .0) _ _ _ _ _ (d .pre .1) (c .before .before .loop-test .taken) (rw (c .before .offset-at .ensures) at (c .first-past .ensures))
+    (c .before .before .before .loop .inv)
 
 same-length : tie.Need-same-length Inv-loop μ-loop
 same-length c = search needs

@@ -30,7 +30,8 @@ loop-less : tie.Need-loop-less Inv-loop μ-loop
 loop-less c = search needs
 
 loop-again : tie.Need-loop-again Inv-loop μ-loop
-loop-again c = none-past-turn _ _ _ _ _ (c .before .before .loop-test .taken) (rw (c .before .bound-at .ensures) at (c .if1 .left)) (c .before .before .before .loop .inv)
+loop-again c = none-past-turn _ _ _ _ _ (c .before .before .loop-test .taken) (rw (c .before .bound-at .ensures) at (c .if1 .left))
+    (c .before .before .before .loop .inv)
 
 returns-2 : tie.Need-returns-2 Inv-loop μ-loop
 returns-2 c = none-past-found _ _ _ _ _ (λ h. absurd (omega arith)) (c .before .loop .inv)

@@ -31,7 +31,11 @@ same-length c = search needs
 
 returns-2 : tie.Need-returns-2
 unfolding afterTable
-returns-2 c = (sym (c .before .before .before .before .before .windows .given .1) ∙ c .before .before .before .before .before .before .before .table-room .ensures, c .before .before .find-parents .ensures)
+returns-2 c = (
+  sym (c .before .before .before .before .before .windows .given .1)
+      ∙ c .before .before .before .before .before .before .before .table-room .ensures,
+  c .before .before .find-parents .ensures,
+)
 
 pub parent-table-spec : {M : Type 1} → statement M
 parent-table-spec =

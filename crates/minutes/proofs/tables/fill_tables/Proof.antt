@@ -27,19 +27,42 @@ cast-find-parents : tie.Need-cast-find-parents
 cast-find-parents c = search needs
 
 find-parents-requires : tie.Need-find-parents-requires
-find-parents-requires c κs = let fills = table-fills _ _ _ _ (c .before .before .before .before .table-room .ensures) (c .before .before .windows .given .1) in
-    (fills .0, omega (arith, fills .1, c .before .before .before .before .before .smaller2 .ensures, c .before .before .before .before .before .before .smaller .ensures))
+find-parents-requires c κs = let fills = table-fills _ _ _ _ (c .before .before .before .before .table-room .ensures)
+    (c .before .before .windows .given .1) in (
+      fills .0,
+      omega (
+        arith,
+        fills .1,
+        c .before .before .before .before .before .smaller2 .ensures,
+        c .before .before .before .before .before
+            .before .smaller .ensures,
+      ),
+    )
 
 cast-fill-lasts : tie.Need-cast-fill-lasts
 cast-fill-lasts c = search needs
 
 fill-lasts-requires : tie.Need-fill-lasts-requires
-fill-lasts-requires c κs = let fills = table-fills _ _ _ _ (c .before .before .before .before .before .before .before .before .table-room .ensures) (c .before .before .before .before .before .before .windows .given .1) in
-    (fills .0, omega (arith, fills .1, c .before .before .before .before .before .before .before .before .before .smaller2 .ensures, c .before .before .before .before .before .before .before .before .before .before .smaller .ensures))
+fill-lasts-requires c κs = let fills = table-fills _ _ _ _ (c .before .before .before .before .before .before .before .before .table-room .ensures)
+    (c .before .before .before .before .before .before .windows .given .1) in (
+      fills .0,
+      omega (
+        arith,
+        fills .1,
+        c .before .before .before .before .before .before .before .before .before .smaller2 .ensures,
+        c .before
+            .before .before .before .before .before .before .before .before .before .smaller .ensures,
+      ),
+    )
 
 returns : tie.Need-returns
 unfolding afterTable
-returns c = (table-asked _ _ _ _ (sym (c .before .refusal .given .1) ∙ c .before .before .before .table-room .ensures) (omega (arith, c .before .before .before .before .before .smaller .ensures, c .before .before .before .before .smaller2 .ensures)), (refl, refl))
+returns c = (
+  table-asked _ _ _ _ (sym (c .before .refusal .given .1)
+      ∙ c .before .before .before .table-room .ensures) (omega
+      (arith, c .before .before .before .before .before .smaller .ensures, c .before .before .before .before .smaller2 .ensures)),
+  (refl, refl),
+)
 
 same-length : tie.Need-same-length
 same-length c = search needs
@@ -49,7 +72,16 @@ same-length-2 c = search needs
 
 returns-2 : tie.Need-returns-2
 unfolding afterTable
-returns-2 c = (table-asked _ _ _ _ (sym (c .before .before .before .before .before .before .before .before .before .windows .given .1) ∙ c .before .before .before .before .before .before .before .before .before .before .before .table-room .ensures) (omega (arith, c .before .before .before .before .before .before .before .before .before .before .before .before .before .smaller .ensures, c .before .before .before .before .before .before .before .before .before .before .before .before .smaller2 .ensures)), (c .before .before .before .before .before .before .find-parents .ensures, c .before .before .fill-lasts .ensures))
+returns-2 c = (
+  table-asked _ _ _ _ (sym (c .before .before .before .before .before .before .before .before .before .windows .given .1)
+      ∙ c .before .before .before .before .before .before .before .before .before .before .before .table-room .ensures) (omega (
+        arith,
+        c .before .before .before .before .before .before .before .before .before .before .before .before .before .smaller .ensures,
+        c .before
+            .before .before .before .before .before .before .before .before .before .before .before .smaller2 .ensures,
+      )),
+  (c .before .before .before .before .before .before .find-parents .ensures, c .before .before .fill-lasts .ensures),
+)
 
 pub fill-tables-spec : {M : Type 1} → statement M
 fill-tables-spec =

@@ -6,6 +6,7 @@ use Rattle.sequences.specs.Table.{overwritten}
 use Rattle.sequences.proofs.Table.{overwritten-holds}
 use Rattle.plan.specs.File.{planNumber}
 use Rattle.plan.proofs.Counted.{windows-few}
+use Rattle.forest.proofs.Parented.{covered-all, covered-three}
 use Rattle.minutes.specs.SingleTable.{afterTable}
 use Rattle.minutes.proofs.SingleTabled.{table-fills}
 use Rattle.tree.specs.Build.{afterBuild, afterTags}
@@ -16,25 +17,52 @@ use Rattle.tree.proofs.building.build.Tie as tie
 
 returns-2 : tie.Need-returns-2
 unfolding afterBuild afterTags afterTable planNumber
-returns-2 c = let asked = rw (c .before .before .before .before .before .before .before .before .before .before .before .before .before .before .before .before .before .before .before .before .before .before .before .before .before .before .before .before .before .before .before .before .before .before .before .before .before .smaller4 .ensures, c .before .before .before .before .before .before .before .before .before .before .before .before .before .before .before .before .before .before .before .before .before .before .before .before .before .before .before .before .before .before .before .before .before .before .before .before .before .before .smaller3 .ensures, c .before .before .before .before .before .before .before .before .before .before .before .before .before .before .before .before .before .before .before .before .before .before .before .before .before .before .before .before .before .before .before .before .before .before .before .before .before .before .before .smaller2 .ensures, c .before .before .before .before .before .before .before .before .before .before .before .before .before .before .before .before .before .before .before .before .before .before .before .before .before .before .before .before .before .before .before .before .before .before .before .before .before .before .before .before .smaller .ensures) at (c .before .before .before .before .before .before .before .before .before .before .before .before .before .before .before .before .before .before .before .before .before .before .before .before .before .before .before .before .before .before .before .before .before .before .fill-tables .ensures .0) in
-    let e = c .before .before .before .before .before .before .before .before .before .before .before .before .before .before .before .before .before .before .before .before .before .before .before .before .before .before .before .before .before .windows .given .1 in
+returns-2 c = let asked = rw (
+  c .before .before .before .before .before .before .before .before .before .before .before .before .before .before
+      .before .before .before .before .before .before .before .before .before .before .before .before .before .before .before .before .before .before
+      .before .before .before .before .before .smaller4 .ensures,
+  c .before .before .before .before .before .before .before .before .before .before
+      .before .before .before .before .before .before .before .before .before .before .before .before .before .before .before .before .before .before
+      .before .before .before .before .before .before .before .before .before .before .smaller3 .ensures,
+  c .before .before .before .before .before
+      .before .before .before .before .before .before .before .before .before .before .before .before .before .before .before .before .before .before
+      .before .before .before .before .before .before .before .before .before .before .before .before .before .before .before
+      .before .smaller2 .ensures,
+  c .before .before .before .before .before .before .before .before .before .before .before .before .before .before
+      .before .before .before .before .before .before .before .before .before .before .before .before .before .before .before .before .before .before
+      .before .before .before .before .before .before .before .before .smaller .ensures,
+) at
+    (c .before .before .before .before .before .before .before .before .before .before .before .before .before .before .before .before .before
+    .before .before .before .before .before .before .before .before .before .before .before .before .before .before .before .before
+    .before .fill-tables .ensures .0) in
+    let e = c .before .before .before .before .before .before .before .before .before .before .before .before .before .before .before .before
+    .before .before .before .before .before .before .before .before .before .before .before .before .before .windows .given .1 in
     let fills = table-fills _ _ _ _ asked e in
     let p = fills .0 in
     let rooms = least-rooms _ _ _ _ _ _ _ (fills .1) in
-    let both = rw e at (c .before .before .before .before .before .before .before .before .before .before .before .before .before .before .before .before .before .before .before .before .before .before .before .before .before .before .before .before .before .before .before .before .before .before .fill-tables .ensures .1) in
+    let both = rw e at (c .before .before .before .before .before .before .before .before .before .before .before .before .before .before .before
+    .before .before .before .before .before .before .before .before .before .before .before .before .before .before .before .before .before
+    .before .before .fill-tables .ensures .1) in
     let parents = overwritten-holds _ _ _ _ (rooms .parents-room) (both .0) in
     let lasts = overwritten-holds _ _ _ _ (windows-few p) (both .1) in
-    let levels = c .before .before .before .before .before .before .before .before .before .before .before .before .before .before .before .before .before .before .before .before .before .before .before .before .fill-levels .ensures in
-    let components = components-filled p parents _ _ _ (levels .1 .0) (omega (arith, parents .long, rooms .components-room, rooms .depths-room, windows-few p)) in
-    let depths = depths-filled p parents _ _ _ (levels .1 .1) (omega (arith, parents .long, rooms .components-room, rooms .depths-room, windows-few p)) in
-    let ranks = ranks-filled p parents _ _ _ (c .before .before .before .before .before .before .before .before .before .before .before .before .before .before .before .before .before .fill-ranks .ensures) (omega (arith, parents .long, rooms .ranks-room, windows-few p)) in
+    let levels = c .before .before .before .before .before .before .before .before .before .before .before .before .before .before .before .before
+    .before .before .before .before .before .before .before .before .fill-levels .ensures in
+    let components = components-filled p parents _ _ _ (levels .1 .0) (covered-three _ _ _ _ (windows-few p) (parents .long) (rooms .components-room)
+    (rooms .depths-room)) in
+    let depths = depths-filled p parents _ _ _ (levels .1 .1) (covered-three _ _ _ _ (windows-few p) (parents .long) (rooms .components-room)
+    (rooms .depths-room)) in
+    let ranks = ranks-filled p parents _ _ _ (c .before .before .before .before .before .before .before .before .before .before .before .before
+    .before .before .before .before .before .fill-ranks .ensures) (covered-all _ _ _ (windows-few p) (parents .long) (rooms .ranks-room)) in
     let ranking = overwritten-holds _ _ _ _ (rooms .ranks-room) ranks in
-    let last-ranks = last-ranks-filled p lasts ranking _ _ _ (c .before .before .before .before .before .before .before .before .before .before .before .look-up .ensures) (omega (arith, lasts .long, rooms .last-ranks-room, windows-few p)) in
+    let last-ranks = last-ranks-filled p lasts ranking _ _ _
+    (c .before .before .before .before .before .before .before .before .before .before .before .look-up .ensures) (covered-all _ _ _ (windows-few p)
+    (lasts .long) (rooms .last-ranks-room)) in
     let c-held = overwritten-holds _ _ _ _ (rooms .components-room) components in
     let d-held = overwritten-holds _ _ _ _ (rooms .depths-room) depths in
     let l-held = overwritten-holds _ _ _ _ (rooms .last-ranks-room) last-ranks in
     let number = c .before .before .before .before .before .before .before .before .read-u16 .ensures in
-    let counted = roots-counted p parents _ _ (levels .0) (omega (arith, parents .long, rooms .components-room, rooms .depths-room, windows-few p)) in
+    let counted = roots-counted p parents _ _ (levels .0) (covered-three _ _ _ _ (windows-few p) (parents .long) (rooms .components-room)
+    (rooms .depths-room)) in
     let tagged = c .before .before .write-tags .ensures ∙ ap (overwritten _) (tags-filled p _ number c-held d-held ranking l-held) in
     (table-build-filled _ _ _ _ _ _ _ _ asked _ _ _ e number counted, (both .0, (components, (depths, (ranks, (last-ranks, tagged))))))
 
@@ -67,9 +95,25 @@ same-length c = search needs
 
 returns : tie.Need-returns
 unfolding afterBuild afterTags afterTable
-returns c = let asked = rw (c .before .before .before .before .before .before .before .before .before .smaller4 .ensures, c .before .before .before .before .before .before .before .before .before .before .smaller3 .ensures, c .before .before .before .before .before .before .before .before .before .before .before .smaller2 .ensures, c .before .before .before .before .before .before .before .before .before .before .before .before .smaller .ensures) at (c .before .before .before .before .before .before .fill-tables .ensures .0) in
-    let e = c .before .refusal .given .1 in
-    (table-build-refused _ _ _ _ _ _ _ _ asked _ e, ((rw e at (c .before .before .before .before .before .before .fill-tables .ensures .1 .0)), (refl, (refl, (refl, (refl, refl))))))
+returns c = let asked = rw (
+  c .before .before .before .before .before .before .before .before .before .smaller4 .ensures,
+  c .before .before .before
+      .before .before .before .before .before .before .before .smaller3 .ensures,
+  c .before .before .before .before .before .before .before .before
+      .before .before .before .smaller2 .ensures,
+  c .before .before .before .before .before .before .before .before .before .before .before
+      .before .smaller .ensures,
+) at (c .before .before .before .before .before .before .fill-tables .ensures .0) in
+    let e = c .before .refusal .given .1 in (
+      table-build-refused _ _ _ _ _ _ _ _ asked _ e,
+      (
+        (rw e at (c .before .before .before .before .before .before .fill-tables .ensures .1 .0)),
+        (
+          refl,
+          (refl, (refl, (refl, refl))),
+        ),
+      ),
+    )
 
 cast-n : tie.Need-cast-n
 cast-n c = search needs
@@ -91,27 +135,55 @@ read-u16-requires c κs = search needs
 
 write-tags-requires : tie.Need-write-tags-requires
 unfolding planNumber afterTable
-write-tags-requires c κs = let asked = rw (c .before .before .before .before .before .before .before .before .before .before .before .before .before .before .before .before .before .before .before .before .before .before .before .before .before .before .before .before .before .before .before .before .before .before .smaller4 .ensures, c .before .before .before .before .before .before .before .before .before .before .before .before .before .before .before .before .before .before .before .before .before .before .before .before .before .before .before .before .before .before .before .before .before .before .before .smaller3 .ensures, c .before .before .before .before .before .before .before .before .before .before .before .before .before .before .before .before .before .before .before .before .before .before .before .before .before .before .before .before .before .before .before .before .before .before .before .before .smaller2 .ensures, c .before .before .before .before .before .before .before .before .before .before .before .before .before .before .before .before .before .before .before .before .before .before .before .before .before .before .before .before .before .before .before .before .before .before .before .before .before .smaller .ensures) at (c .before .before .before .before .before .before .before .before .before .before .before .before .before .before .before .before .before .before .before .before .before .before .before .before .before .before .before .before .before .before .before .fill-tables .ensures .0) in
-    let e = c .before .before .before .before .before .before .before .before .before .before .before .before .before .before .before .before .before .before .before .before .before .before .before .before .before .before .windows .given .1 in
+write-tags-requires c κs = let asked = rw (
+  c .before .before .before .before .before .before .before .before .before .before .before .before .before
+      .before .before .before .before .before .before .before .before .before .before .before .before .before .before .before .before .before .before
+      .before .before .before .smaller4 .ensures,
+  c .before .before .before .before .before .before .before .before .before .before .before .before
+      .before .before .before .before .before .before .before .before .before .before .before .before .before .before .before .before .before .before
+      .before .before .before .before .before .smaller3 .ensures,
+  c .before .before .before .before .before .before .before .before .before .before
+      .before .before .before .before .before .before .before .before .before .before .before .before .before .before .before .before .before .before
+      .before .before .before .before .before .before .before .before .smaller2 .ensures,
+  c .before .before .before .before .before .before .before
+      .before .before .before .before .before .before .before .before .before .before .before .before .before .before .before .before .before .before
+      .before .before .before .before .before .before .before .before .before .before .before .before .smaller .ensures,
+) at
+    (c .before .before .before .before .before .before .before .before .before .before .before .before .before .before .before .before .before
+    .before .before .before .before .before .before .before .before .before .before .before .before .before .before .fill-tables .ensures .0) in
+    let e = c .before .before .before .before .before .before .before .before .before .before .before .before .before .before .before .before
+    .before .before .before .before .before .before .before .before .before .before .windows .given .1 in
     let fills = table-fills _ _ _ _ asked e in
     let p = fills .0 in
     let rooms = least-rooms _ _ _ _ _ _ _ (fills .1) in
-    let both = rw e at (c .before .before .before .before .before .before .before .before .before .before .before .before .before .before .before .before .before .before .before .before .before .before .before .before .before .before .before .before .before .before .before .fill-tables .ensures .1) in
+    let both = rw e at (c .before .before .before .before .before .before .before .before .before .before .before .before .before .before .before
+    .before .before .before .before .before .before .before .before .before .before .before .before .before .before .before
+    .before .fill-tables .ensures .1) in
     let parents = overwritten-holds _ _ _ _ (rooms .parents-room) (both .0) in
     let lasts = overwritten-holds _ _ _ _ (windows-few p) (both .1) in
-    let levels = c .before .before .before .before .before .before .before .before .before .before .before .before .before .before .before .before .before .before .before .before .before .fill-levels .ensures in
-    let components = components-filled p parents _ _ _ (levels .1 .0) (omega (arith, parents .long, rooms .components-room, rooms .depths-room, windows-few p)) in
-    let depths = depths-filled p parents _ _ _ (levels .1 .1) (omega (arith, parents .long, rooms .components-room, rooms .depths-room, windows-few p)) in
-    let ranks = ranks-filled p parents _ _ _ (c .before .before .before .before .before .before .before .before .before .before .before .before .before .before .fill-ranks .ensures) (omega (arith, parents .long, rooms .ranks-room, windows-few p)) in
+    let levels = c .before .before .before .before .before .before .before .before .before .before .before .before .before .before .before .before
+    .before .before .before .before .before .fill-levels .ensures in
+    let components = components-filled p parents _ _ _ (levels .1 .0) (covered-three _ _ _ _ (windows-few p) (parents .long) (rooms .components-room)
+    (rooms .depths-room)) in
+    let depths = depths-filled p parents _ _ _ (levels .1 .1) (covered-three _ _ _ _ (windows-few p) (parents .long) (rooms .components-room)
+    (rooms .depths-room)) in
+    let ranks = ranks-filled p parents _ _ _ (c .before .before .before .before .before .before .before .before .before .before .before .before
+    .before .before .fill-ranks .ensures) (covered-all _ _ _ (windows-few p) (parents .long) (rooms .ranks-room)) in
     let ranking = overwritten-holds _ _ _ _ (rooms .ranks-room) ranks in
-    let last-ranks = last-ranks-filled p lasts ranking _ _ _ (c .before .before .before .before .before .before .before .before .look-up .ensures) (omega (arith, lasts .long, rooms .last-ranks-room, windows-few p)) in
+    let last-ranks = last-ranks-filled p lasts ranking _ _ _ (c .before .before .before .before .before .before .before .before .look-up .ensures)
+    (covered-all _ _ _ (windows-few p) (lasts .long) (rooms .last-ranks-room)) in
     let c-held = overwritten-holds _ _ _ _ (rooms .components-room) components in
     let d-held = overwritten-holds _ _ _ _ (rooms .depths-room) depths in
     let l-held = overwritten-holds _ _ _ _ (rooms .last-ranks-room) last-ranks in
     (numbers-filled p _ (c .before .before .before .before .before .read-u16 .ensures) c-held d-held ranking l-held, rooms .tags-room)
 
 same-length-2 : tie.Need-same-length-2
-same-length-2 c = search (needs, c .before .before .before .before .before .before .before .before .before .before .before .before .before .before .before .before .before .before .before .before .before .before .before .before .before .before .before .before .before .before .before .before .before .before .fill-tables .kept)
+same-length-2 c = search (
+  needs,
+  c .before .before .before .before .before .before .before .before .before .before .before .before .before .before
+      .before .before .before .before .before .before .before .before .before .before .before .before .before .before .before .before .before .before
+      .before .before .fill-tables .kept,
+)
 
 same-length-3 : tie.Need-same-length-3
 same-length-3 c = search needs

@@ -9,7 +9,8 @@ use Rattle.tree.proofs.tagging.write_tags.Statement.{statement}
 use Rattle.tree.proofs.tagging.write_tags.Tie as tie
 
 abbrev Inv-loop : tie.InvT-loop
-Inv-loop windows plan components depths ranks last-ranks tags₀ position₀ tags position = Tagged (numbersIn plan components depths ranks last-ranks) windows tags₀ tags position
+Inv-loop windows plan components depths ranks last-ranks tags₀ position₀ tags position = Tagged
+    (numbersIn plan components depths ranks last-ranks) windows tags₀ tags position
 
 abbrev μ-loop : tie.MeasureT-loop
 μ-loop windows plan components depths ranks last-ranks tags₀ position₀ tags position = windows - position
