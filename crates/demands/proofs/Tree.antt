@@ -36,8 +36,9 @@ use Rattle.demands.specs.Tree.{Built, Demand2}
 pub window-within : (file : List ℕ) → AcceptedPlan file → (v : ℕ) → v < windowCount file → withinLimit (numbersAt file v) ≡ true
 unfolding numbersAt numbersOf
 window-within file ok v h =
-    let small = numbers-small (interval-order file ok) v (accepted-sound file ok .few) h in
-    limit-within (numbersAt file v) (record { component = small .0; depth = small .1; rank = small .2; last = small .3 })
+    let small = numbers-small (interval-order file ok) v h in
+    let few = accepted-sound file ok .few in
+    limit-within (numbersAt file v) (record { component = omega arith; depth = omega arith; rank = omega arith; last = omega arith })
 
 built : (file : List ℕ) (answer : BuildAnswer) → answer ≡ BuildAnswer.Built (planNumber file) (windowCount file) (componentCount file) → Built file answer
 unfolding afterBuild afterTags parentOf componentOf depthOf rankOf lastRankOf numbersAt

@@ -8,6 +8,7 @@ use native.Mathlib.Omega.{arith}
 use lib.ListN.{length, getD}
 use Rattle.sequences.specs.Table.{Holds}
 use Rattle.interval_graph.specs.Forest.{Forest}
+use Rattle.plan.specs.Validation.{greatestCount}
 use Rattle.forest.specs.Parents.{parentIn, covered}
 
 pub table-forest : (parents : List ℕ) → Forest (parentIn parents)
@@ -20,8 +21,8 @@ unfolding parentIn
 held-parents forest n parents held v h = omega (arith, held .at v h, forest .parent-le v)
 
 -- Where every table has room for as many, all the entries asked for are gone through.
-pub covered-all : (n first second : ℕ) → n ≤ 2048 → n ≤ first → n ≤ second → covered n first second ≡ n
+pub covered-all : (n first second : ℕ) → n ≤ greatestCount → n ≤ first → n ≤ second → covered n first second ≡ n
 covered-all n first second few a b = omega arith
 
-pub covered-three : (n first second third : ℕ) → n ≤ 2048 → n ≤ first → n ≤ second → n ≤ third → min (covered n first second) third ≡ n
+pub covered-three : (n first second third : ℕ) → n ≤ greatestCount → n ≤ first → n ≤ second → n ≤ third → min (covered n first second) third ≡ n
 covered-three n first second third few a b c = rw (covered-all n first second few a b) (omega arith)

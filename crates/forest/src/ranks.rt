@@ -3,17 +3,19 @@
 use crate::parents::parent_at;
 use crate::parents::smaller;
 use crate::sizes::add_sizes;
+use plan::GREATEST_COUNT;
 ghost use mathlib.Core.Path.{_≡_};
 ghost use Prim.Native.Nat.{_≤_};
 ghost use lib.ListN.{length};
 ghost use Rattle.sequences.specs.Table.{table, overwritten, Holds};
 ghost use Rattle.interval_graph.specs.Forest.{size, rank};
+ghost use Rattle.plan.specs.Validation.{greatestCount};
 ghost use Rattle.forest.specs.Parents.{parentIn, covered};
 
 // `next` is scratch of at least as many entries: for each window so far, where the list of its next child begins. A window's size is
 // set aside for it in its parent's list.
 fn assign_ranks(parents: &[u16], entries: usize, sizes: &[u16], next: &mut [u16], ranks: &mut [u16])
-    requires { ⌜ entries ≤ 2048 ⌝ }
+    requires { ⌜ entries ≤ greatestCount ⌝ }
     requires { ⌜ entries ≤ length (now parents) ⌝ }
     requires { ⌜ Holds (now sizes) (size entries (parentIn (now parents))) entries ⌝ }
     requires { ⌜ entries ≤ length (now next) ⌝ }
@@ -39,9 +41,12 @@ fn assign_ranks(parents: &[u16], entries: usize, sizes: &[u16], next: &mut [u16]
 pub fn fill_ranks(parents: &[u16], entries: usize, ranks: &mut [u16])
     ensures { λ _. ⌜ now (ranks .exit) ≡ overwritten (now (ranks .entry)) (table (rank (covered entries (length (now (parents .entry))) (length (now (ranks .entry)))) (parentIn (now (parents .entry)))) (covered entries (length (now (parents .entry))) (length (now (ranks .entry))))) ⌝ }
 {
-    let end = smaller(smaller(smaller(entries, 2048), parents.len()), ranks.len());
-    let mut sizes = [1; 2048];
-    let mut next = [0; 2048];
+    let end = smaller(
+        smaller(smaller(entries, GREATEST_COUNT), parents.len()),
+        ranks.len(),
+    );
+    let mut sizes = [1; GREATEST_COUNT];
+    let mut next = [0; GREATEST_COUNT];
     add_sizes(parents, end, &mut sizes);
     assign_ranks(parents, end, &sizes, &mut next, ranks);
 }

@@ -29,9 +29,9 @@ module _ {n : ℕ} {overlaps : ℕ → ℕ → Bool} (ok : IntervalOrder n overl
   unfolding lastRank
   lastRank-lt v h = rank-lt n (tree overlaps) (last n overlaps v) (last-below ok v h)
 
-  -- So of at most 2,048 windows they are at most 2,047.
-  pub numbers-small : (v : ℕ) → n ≤ 2048 → v < n → (component overlaps v ≤ 2047) × (depth overlaps v ≤ 2047) × (rank n overlaps v ≤ 2047) × (lastRank n overlaps v ≤ 2047)
-  numbers-small v b h = omega (arith, component-le (tree overlaps) v, depth-le (tree overlaps) v, rank-lt n (tree overlaps) v h, lastRank-lt v h)
+  -- So every number of a window is.
+  pub numbers-small : (v : ℕ) → v < n → (component overlaps v < n) × (depth overlaps v < n) × (rank n overlaps v < n) × (lastRank n overlaps v < n)
+  numbers-small v h = omega (arith, component-le (tree overlaps) v, depth-le (tree overlaps) v, rank-lt n (tree overlaps) v h, lastRank-lt v h)
 
   -- What bounds the steps up from the later of two windows, and one more, bounds a least number of handovers.
   pub least-le : (a b k m : ℕ) → a < n → b < n → LeastHandovers n overlaps a b k → (a < b → climb n overlaps a b < m) → (b < a → climb n overlaps b a < m) → k ≤ m

@@ -1,27 +1,22 @@
 -- What the answers say of an accepted plan, in the paper's words: the chain is a shortest one with the earliest window at each
--- step, and empty exactly if no chain joins the two; the neighbours are the windows that overlap, and never the window itself;
--- and two plans are answered to be the same exactly if they have equal n and every window has the same numbers.
+-- step, and empty exactly if no chain joins the two; the neighbours are the windows that overlap, and never the window itself.
 -- Assumes nothing.
 use Prim.Native.Nat.{ℕ, _<_}
-use mathlib.Core.Bool.{true, cond}
-use mathlib.Core.Path.{_≡_, sym, _∙_}
-use mathlib.Core.Logic.{⊎-elim, _↔_}
+use mathlib.Core.Bool.{true}
+use mathlib.Core.Path.{_≡_}
+use mathlib.Core.Logic.{_↔_}
 use mathlib.Core.List.{List, [], List·Memᴰ}
 use native.Mathlib.Omega.{arith}
-use Rattle.sequences.proofs.Tests.{truth, true-false-absurd}
+use Rattle.sequences.proofs.Tests.{true-false-absurd}
 use Rattle.sequences.proofs.Passing.{passing-sound, passing-complete}
 use Rattle.interval_graph.specs.Chain.{Joined, EarliestShortest}
 use Rattle.interval_graph.proofs.ShortestChain.{chain-earliest-shortest, chain-empty-iff-apart}
-use Rattle.interval_graph.proofs.Sameness.{SameNumbers}
 use Rattle.plan.specs.File.{windowCount}
 use Rattle.plan.specs.Overlap.{overlaps}
 use Rattle.plan.specs.Validation.{AcceptedPlan}
 use Rattle.plan.proofs.Overlap.{interval-order}
-use Rattle.path.specs.declared.answers.SameAnswer.the-variants.{Same, Different}
 use Rattle.path.specs.Chain.{chainBetween}
 use Rattle.path.specs.Neighbours.{neighboursOf}
-use Rattle.path.specs.Sameness.{sameOverlap, sameAnswerOf}
-use Rattle.path.proofs.Sameness.{same-iff-numbers, compared}
 
 module _ (file : List ℕ) (ok : AcceptedPlan file) where
   module _ (a b : ℕ) (within : a < windowCount file) (within′ : b < windowCount file) where
@@ -48,18 +43,3 @@ neighbour-iff-overlaps file at v = (
   λ m. let s = passing-sound (overlaps file at) 0 (windowCount file) v m in (omega (arith, s .1), s .2),
   λ h. passing-complete (overlaps file at) 0 (windowCount file) v (omega arith) (omega arith) (h .1),
 )
-
-different-not-same : Different ≡ Same → ⊥
-different-not-same e = let z : _≡_ {A = ℕ} 0 1 = cc in omega arith
-
--- Two accepted plans are answered to be the same exactly if they have equal n and each window's component, depth, rank and
--- rank of the last are the same.
-pub same-answer-iff-numbers : (first second : List ℕ) → AcceptedPlan first → AcceptedPlan second → (sameAnswerOf first second ≡ Same) ↔ ((windowCount first ≡ windowCount second) × SameNumbers (windowCount first) (overlaps first) (overlaps second))
-same-answer-iff-numbers first second ok ok′ = (
-  λ e. ⊎-elim (λ t. same-iff-numbers first second ok ok′ .0 t)
-      (λ t. absurd (different-not-same (sym (rw t at answer) ∙ e))) (truth (sameOverlap first second)),
-  λ s. rw (same-iff-numbers first second ok ok′ .1 s) at answer,
-)
-  where
-    answer : sameAnswerOf first second ≡ cond (sameOverlap first second) Same Different
-    answer = compared first second ok ok′

@@ -1,6 +1,6 @@
 -- What is known of an accepted plan's file by the number of its windows, and that a validation hands it on; and where each of its
 -- windows lies, which whoever reads windows cites.
--- Vocabulary: windows-few, windows-order, validated-windows, validated-plan, window-within, bound-fits, own-offset.
+-- Vocabulary: windows-few, windows-order, validated-windows, window-within, bound-fits, own-offset.
 -- Assumes nothing.
 use Prim.Native.Nat.{ℕ, _+_, _≤_, _<_}
 use mathlib.Core.Path.{_≡_, sym, _∙_}
@@ -33,9 +33,6 @@ module _ (file : List ℕ) (answer : Validation) (validated : answer ≡ validat
         accepted = accepted-plan file plan windows (sym e ∙ validated);
         counted = accepted-numbers file plan windows (sym e ∙ validated) .1;
       }
-
-  pub validated-plan : plan ≡ planNumber file
-  validated-plan = accepted-numbers file plan windows (sym e ∙ validated) .0
 
 -- A window of an accepted plan.
 module _ (file : List ℕ) (ok : AcceptedPlan file) (v : ℕ) (h : v < windowCount file) where

@@ -136,11 +136,6 @@ pub pair-symmetric : (first second : List ℕ) (a b : Tag) → readAnswerOf firs
 pair-symmetric first second a b e g =
     pair-valid first second a b e g ∙ (compared-symmetric (numbers a) (numbers b) ∙ sym (pair-valid second first b a g e))
 
--- Where one of two is refused by 9 or 10, both orders are refused by that number, at the input where it stands. (Where both
--- are, each order has the refusal of the one that it names first, by `pair-first-refused`; the two numbers may differ.)
-pub pair-one-refused : (first second : List ℕ) (r : Refusal) (b : Tag) → readAnswerOf first ≡ read.Refused r → readAnswerOf second ≡ read.Valid b → (pairAnswerOf first second ≡ Refused (refusalFrom 0 r)) × (pairAnswerOf second first ≡ Refused (refusalFrom 1 r))
-pair-one-refused first second r b e g = (pair-first-refused first second r e, pair-second-refused second first b r g e)
-
 -- The answer from the bytes of two tags within the limit is that from their numbers.
 pub pair-tagBytes : (u v : Numbers) → withinLimit u ≡ true → withinLimit v ≡ true → pairAnswerOf (tagBytes u) (tagBytes v) ≡ comparedOf u v
 pair-tagBytes u v hu hv =

@@ -180,9 +180,10 @@ module _ {file : List ℕ} {windows : ℕ} (plan : AcceptedWindows file windows)
         ranks-long = r .long;
         last-ranks-long = l .long;
         fit = λ v h.
-            let small = numbers-small (windows-order plan) v (windows-few plan) h in
+            let small = numbers-small (windows-order plan) v h in
+            let few = windows-few plan in
             rw (numbers-held v h, ← plan .counted)
-            (limit-within _ (record { component = small .0; depth = small .1; rank = small .2; last = small .3 }));
+            (limit-within _ (record { component = omega arith; depth = omega arith; rank = omega arith; last = omega arith }));
       }
 
   pub tags-filled : tagFile (numbersIn number components depths ranks lastRanks) windows ≡ tagFile (numbersAt file) windows

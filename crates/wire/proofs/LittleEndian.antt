@@ -27,15 +27,6 @@ le32-past l at h =
       List·getD-eq-default l 0 {n = at + 3} (omega arith),
     )
 
--- Numbers of bytes are below 65,536 and 4,294,967,296.
-pub le16-below : (l : List ℕ) (at : ℕ) → ((i : ℕ) → getD l i 0 < 256) → le16 l at < 65536
-unfolding le16
-le16-below l at h = omega (arith, h at, h (at + 1))
-
-pub le32-below : (l : List ℕ) (at : ℕ) → ((i : ℕ) → getD l i 0 < 256) → le32 l at < 4294967296
-unfolding le32
-le32-below l at h = omega (arith, h at, h (at + 1), h (at + 2), h (at + 3))
-
 -- Where the bytes fit, they are stored one behind the other; where they do not, nothing is.
 pub placed-fits : (l : List ℕ) (at : ℕ) (new : List ℕ) → at + length new ≤ length l → placed l at new ≡ sets l at new
 unfolding placed

@@ -2,6 +2,7 @@
 -- Assumes nothing.
 use native.Mathlib.Omega.{arith}
 use Rattle.forest.proofs.Sizing.{ones-held}
+use Rattle.plan.specs.Validation.{greatestCount}
 use borrow.Author.Needs.{needs}
 use Rattle.forest.proofs.ranks.fill_ranks.Statement.{statement}
 use Rattle.forest.proofs.ranks.fill_ranks.Tie as tie
@@ -19,7 +20,7 @@ slice-aggregate-add-sizes : tie.Need-slice-aggregate-add-sizes
 slice-aggregate-add-sizes c = search needs
 
 add-sizes-requires : tie.Need-add-sizes-requires
-add-sizes-requires c κs = (omega arith, (omega arith, ones-held _ 2048 (omega arith)))
+add-sizes-requires c κs = (omega arith, (omega arith, ones-held _ greatestCount (omega arith)))
 
 slice-aggregate-assign-ranks : tie.Need-slice-aggregate-assign-ranks
 slice-aggregate-assign-ranks c = search needs
