@@ -14,7 +14,7 @@ use Rattle.interval_graph.specs.Walk.{climb, walk, chainOf}
 use Rattle.interval_graph.proofs.Plan12.{definitions}
 use Rattle.interval_graph.proofs.Rule.{outcome-apart, outcome-no-chain}
 use Rattle.wire.specs.Question.{allYes}
-use Rattle.plan.specs.File.{windowCount}
+use Rattle.plan.specs.File.{windowCount, fileOf}
 use Rattle.plan.specs.Overlap.{overlaps}
 use Rattle.plan.specs.Validation.{planQuestions, AcceptedPlan}
 use Rattle.plan.proofs.Plan12.{meaning}
@@ -115,3 +115,15 @@ tests-hold (d ∷ l) t c m =
 -- All cases marked P hold.
 pub cases-hold : CasesHold
 cases-hold = tests-hold cases cases-pass
+
+-- Two windows (5, 5): the offsets are equal, the file's order counts, and they are one handover apart.
+abbrev equals : Case
+equals =
+    record {
+      file = fileOf 0 (record { offset = 5; length = 5 } ∷ record { offset = 5; length = 5 } ∷ []);
+      components = 1; first = 0; second = 1; expected = apart 1; chain = 1 ∷ 0 ∷ [];
+    }
+
+pub equal-offsets : CaseHolds equals
+unfolding definitions meaning allYes componentCount climb walk chainOf chainBetween test found sameOutcome sameList
+equal-offsets = test-holds equals refl

@@ -40,7 +40,8 @@ pub record Built (file : List ℕ) (answer : BuildAnswer) : Type 0 where
       afterBuild answer (rankOf file) before ≡ overwritten before (table (rank (windowCount file) (overlaps file)) (windowCount file))
   pub last-ranks :
       (before : List ℕ) →
-      afterBuild answer (lastRankOf file) before ≡ overwritten before (table (lastRank (windowCount file) (overlaps file)) (windowCount file))
+      afterBuild answer (lastRankOf file) before
+      ≡ overwritten before (table (lastRank (windowCount file) (overlaps file)) (windowCount file))
   pub tags :
       (before : List ℕ) →
       afterTags answer (numbersAt file) before
