@@ -1,11 +1,11 @@
 -- What is said of reach and of sameness: the theory's bound at an accepted file, and that two accepted plans are the same exactly if
 -- their tag files are equal apart from the plan number.
 -- Assumes nothing.
-use Prim.Native.Nat.{ℕ, _<_, _≤_}
-use mathlib.Core.Bool.{Bool, true, false, cond}
+use Prim.Native.Nat.{ℕ, _<_}
+use mathlib.Core.Bool.{true, cond}
 use mathlib.Core.Path.{_≡_, refl, sym, ap, _∙_}
 use mathlib.Core.Logic.{_↔_, ⊎-elim}
-use mathlib.Core.List.{List, [], _∷_, _++_}
+use mathlib.Core.List.{List, _++_}
 use native.Mathlib.Omega.{arith}
 use lib.ListN.{drop}
 use borrow.Author.Tests.{lt-ltb, eqb-true, eq-eqb}
@@ -31,10 +31,10 @@ use Rattle.tree.specs.declared.answers.ReachAnswer.the-variants as ReachAnswer
 use Rattle.tree.specs.Tables.{numbersAt}
 use Rattle.tree.specs.Reach.{reachQuestions, reachAnswerOf}
 use Rattle.path.specs.declared.answers.SameAnswer.the-variants as SameAnswer
-use Rattle.path.specs.Sameness.{samePairs, sameOverlap, sameAnswerOf}
+use Rattle.path.specs.Sameness.{sameOverlap, sameAnswerOf}
 use Rattle.path.proofs.Sameness.{pairs-iff-overlaps, same-iff-numbers, compared}
 use Rattle.demands.specs.EndToEnd.{tagAt}
-use Rattle.demands.specs.Calls.{ReachBounds, SameOverlap, EqualTags, SameAnswered, Sameness}
+use Rattle.demands.specs.Calls.{ReachBounds, SameOverlap, Sameness}
 
 -- For a window of an accepted plan the call answers with the theory's reach.
 reach-answered : (file : List ℕ) → AcceptedPlan file → (at : ℕ) → at < windowCount file → reachAnswerOf file at ≡ ReachAnswer.Reach (reach (windowCount file) (overlaps file) at)
@@ -78,8 +78,7 @@ module _ (first second : List ℕ) (count : windowCount first ≡ windowCount se
   tags-agree s v h =
       rw (tag-bytes first v h, tag-bytes second v (rw (← count) h))
       (bytes-equal (numbersAt first v) (numbersAt second v) (s .components v h) (s .depths v h)
-      (s .ranks v h ∙ ap (λ n. rank n (overlaps second) v) count)
-      (s .lasts v h ∙ ap (λ n. lastRank n (overlaps second) v) count))
+      (s .ranks v h ∙ ap (λ n. rank n (overlaps second) v) count) (s .lasts v h ∙ ap (λ n. lastRank n (overlaps second) v) count))
 
   numbers-agree : ((v : ℕ) → v < windowCount first → drop 2 (tagAt first v) ≡ drop 2 (tagAt second v)) → SameNumbers (windowCount first) (overlaps first) (overlaps second)
   unfolding numbersAt numbersOf tagWith unplanned

@@ -2,10 +2,9 @@
 -- Assumes nothing.
 use Prim.Native.Nat.{ℕ, _<_}
 use mathlib.Core.Bool.{Bool, true, false, _&&_, _||_}
-use mathlib.Core.Path.{_≡_, refl, sym, ap, _∙_}
-use mathlib.Core.Logic.{_⊎_, inl, inr, ⊎-elim}
+use mathlib.Core.Path.{_≡_, refl, ap}
+use mathlib.Core.Logic.{inl, inr, ⊎-elim}
 use mathlib.Core.List.{List, [], _∷_, List·Memᴰ, List·Memᴰ·not-nil, List·Memᴰ·cases-cons}
-use native.Mathlib.Omega.{arith}
 use lib.Dec.{ltb, eqb}
 use borrow.Author.Tests.{ltb-true, eqb-true}
 use Rattle.sequences.proofs.Tests.{and-left, and-right, or-cases}
@@ -58,11 +57,8 @@ found c =
 
 test : Case → Bool
 test c =
-    allYes (planQuestions (c .file))
-    && (eqb (componentCount (c .file)) (c .components)
-    && (ltb (c .first) (windowCount (c .file))
-    && (ltb (c .second) (windowCount (c .file))
-    && (sameOutcome (found c) (c .expected)
+    allYes (planQuestions (c .file)) && (eqb (componentCount (c .file)) (c .components) && (ltb (c .first) (windowCount (c .file))
+    && (ltb (c .second) (windowCount (c .file)) && (sameOutcome (found c) (c .expected)
     && (sameList (c .chain) [] || sameList (chainBetween (c .file) (c .first) (c .second)) (c .chain))))))
 
 tests : List Case → Bool
@@ -121,7 +117,11 @@ abbrev equals : Case
 equals =
     record {
       file = fileOf 0 (record { offset = 5; length = 5 } ∷ record { offset = 5; length = 5 } ∷ []);
-      components = 1; first = 0; second = 1; expected = apart 1; chain = 1 ∷ 0 ∷ [];
+      components = 1;
+      first = 0;
+      second = 1;
+      expected = apart 1;
+      chain = 1 ∷ 0 ∷ [];
     }
 
 pub equal-offsets : CaseHolds equals

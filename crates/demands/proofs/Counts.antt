@@ -80,8 +80,7 @@ module _ (file : List ℕ) (ok : AcceptedPlan file) (u v : ℕ) (hu : u < window
       cond-cases (λ b. b ≡ true) (eqb (component (overlaps file) u) (component (overlaps file) v) && eqb (rank (windowCount file) (overlaps file) u) (rank (windowCount file) (overlaps file) v))
       (λ t.
       let one : u ≡ v = same-window order u v hu hv (eqb-true _ _ (and-left _ _ t)) (eqb-true _ _ (and-right (eqb (component (overlaps file) u) (component (overlaps file) v)) _ t)) in
-      rw one (equal-refl (numbersAt file v)))
-      (λ t. refl)
+      rw one (equal-refl (numbersAt file v))) (λ t. refl)
 
   -- So the answer from the two tags is what the rule says.
   pair-rule : pairAnswerOf (tagAt file u) (tagAt file v) ≡ answerOf (outcome (numbersOf (windowCount file) (overlaps file) (planNumber file) u) (numbersOf (windowCount file) (overlaps file) (planNumber file) v))
@@ -125,8 +124,7 @@ module _ (file : List ℕ) (ok : AcceptedPlan file) (u v : ℕ) (hu : u < window
     -- A chain that was answered was found, and stands at the front of the table.
     entries-are : (entries : ℕ) → chain ≡ ChainAnswer.Chain entries → entries ≡ length (chainBetween file u v)
     entries-are entries e =
-        ⊎-elim
-        (λ t. found-count (chainBetween file u v) entries (sym (roomy (leb-true _ _ t)) ∙ e))
+        ⊎-elim (λ t. found-count (chainBetween file u v) entries (sym (roomy (leb-true _ _ t)) ∙ e))
         (λ t. let z : _≡_ {A = ℕ} 0 1 = cc (chain-short (length before) t) in absurd (omega arith))
         (truth (leb (length (chainBetween file u v)) (length before)))
 
@@ -137,8 +135,7 @@ module _ (file : List ℕ) (ok : AcceptedPlan file) (u v : ℕ) (hu : u < window
     -- No chain is answered exactly if there is none: it is answered whatever the room.
     none-found : chain ≡ ChainAnswer.NoChain → chainBetween file u v ≡ []
     none-found e =
-        ⊎-elim
-        (λ t. found-none (chainBetween file u v) (sym (roomy (leb-true _ _ t)) ∙ e))
+        ⊎-elim (λ t. found-none (chainBetween file u v) (sym (roomy (leb-true _ _ t)) ∙ e))
         (λ t. let z : _≡_ {A = ℕ} 0 1 = cc (chain-short (length before) t) in absurd (omega arith))
         (truth (leb (length (chainBetween file u v)) (length before)))
 
@@ -149,12 +146,10 @@ module _ (file : List ℕ) (ok : AcceptedPlan file) (u v : ℕ) (hu : u < window
     -- A chain that was answered joins the two.
     joined : (entries : ℕ) → chain ≡ ChainAnswer.Chain entries → Joined (windowCount file) (overlaps file) u v
     joined entries e =
-        ⊎-elim (root-joined order u v hu hv)
-        (λ other.
+        ⊎-elim (root-joined order u v hu hv) (λ other.
         let none = found-nothing (empty-apart .1 (λ j. other (joined-root order u v j))) in
         let z : _≡_ {A = ℕ} 0 1 = cc in
-        absurd (omega arith))
-        (equal-or-not (root (overlaps file) u) (root (overlaps file) v))
+        absurd (omega arith)) (equal-or-not (root (overlaps file) u) (root (overlaps file) v))
 
     -- A chain of k handovers has k + 1 entries.
     chain-long : (k : ℕ) → pair ≡ PairAnswer.Handovers k → length (chainBetween file u v) ≡ suc k

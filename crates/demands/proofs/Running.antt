@@ -1,11 +1,10 @@
 -- What the call that runs everything needs: the tag file in a table that holds any plan's, and the answer from two tags of it.
 -- Assumes nothing.
 use Prim.Native.Nat.{ℕ, _*_, _≤_, _<_}
-use mathlib.Core.Path.{_≡_, refl, sym, ap, _∙_}
-use mathlib.Core.Logic.{⊎-elim}
-use mathlib.Core.List.{List, [], _∷_, _++_}
+use mathlib.Core.Path.{_≡_, refl, sym, _∙_}
+use mathlib.Core.List.{List}
 use native.Mathlib.Omega.{arith}
-use lib.ListN.{length, take}
+use lib.ListN.{take}
 use borrow.Author.Tests.{le-leb, lt-ltb}
 use Rattle.sequences.specs.Table.{overwritten}
 use Rattle.sequences.proofs.Table.{take-overwritten}
@@ -75,8 +74,7 @@ module _ (file : List ℕ) (room : ℕ) (enough : tagLength * greatestCount ≤ 
           let p = running-windows in
           let filled : tags ≡ overwritten before (tagFile (numbersAt file) windows) = rw e at after in
           let front : take (tagLength * windows) tags ≡ tagFile (numbersAt file) windows = rw (filled, ← length-tagFile (numbersAt file) windows) (take-overwritten before (tagFile (numbersAt file) windows)) in
-          rw front
-          (pair-at-tagFile (numbersAt file) windows first second
+          rw front (pair-at-tagFile (numbersAt file) windows first second
           ∙ (rw (p .counted) (plan-accepted file _ PairAnswer.Refused _ (validateAnswerOf file) refl _ _ (accepted-validated file (p .accepted)))))
 
 -- Of the positions of two windows of an accepted plan the tags answer.

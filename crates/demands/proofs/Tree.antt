@@ -1,24 +1,19 @@
 -- Demand 2.
 -- Assumes nothing.
 use Prim.Native.Nat.{ℕ, _≤_, _<_, _*_}
-use mathlib.Core.Bool.{true, _&&_}
-use mathlib.Core.Path.{_≡_, refl, sym, ap, _∙_}
-use mathlib.Core.List.{List, []}
+use mathlib.Core.Bool.{true}
+use mathlib.Core.Path.{_≡_, refl, sym}
+use mathlib.Core.List.{List}
 use native.Mathlib.Omega.{arith}
-use lib.ListN.{length}
-use lib.Dec.{leb}
 use borrow.Author.Tests.{le-leb}
 use Rattle.sequences.specs.Table.{overwritten}
-use Rattle.sequences.proofs.Tests.{and-intro}
 use Rattle.interval_graph.specs.Numbers.{numbersOf}
 use Rattle.interval_graph.proofs.Bounds.{numbers-small}
-use Rattle.plan.specs.declared.questions.Validation.{Validation}
 use Rattle.plan.specs.File.{planNumber, windowCount}
-use Rattle.plan.specs.Overlap.{overlaps}
 use Rattle.plan.specs.Validation.{AcceptedPlan, validateAnswerOf}
 use Rattle.plan.proofs.Accepted.{accepted-sound, accepted-validated}
 use Rattle.plan.proofs.Overlap.{interval-order}
-use Rattle.tag.specs.Fields.{tagLength, numbers, tagBytes, withinLimit}
+use Rattle.tag.specs.Fields.{tagLength, numbers, withinLimit}
 use Rattle.tag.specs.Writing.{afterWrite}
 use Rattle.tag.proofs.Fields.{limit-within, length-tagBytes}
 use Rattle.tag.proofs.Writing.{tagBytes-read, written-reads-back, read-tagBytes, read-accepted}
@@ -27,7 +22,7 @@ use Rattle.tree.specs.declared.answers.BuildAnswer.{BuildAnswer}
 use Rattle.tree.specs.declared.answers.BuildAnswer.the-variants as BuildAnswer
 use Rattle.minutes.specs.Tables.{parentOf}
 use Rattle.tree.specs.Tables.{componentOf, depthOf, rankOf, lastRankOf, componentCount, numbersAt}
-use Rattle.tree.specs.Build.{tablesFit, buildAnswerOf, afterBuild, afterTags}
+use Rattle.tree.specs.Build.{tablesFit, afterBuild, afterTags}
 use Rattle.tree.proofs.Built.{build-built}
 use Rattle.demands.specs.EndToEnd.{tagAt}
 use Rattle.demands.specs.Tree.{Built, Demand2}

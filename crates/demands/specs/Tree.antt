@@ -6,7 +6,7 @@ use mathlib.Core.Path.{_≡_}
 use mathlib.Core.List.{List, _++_}
 use lib.ListN.{length, getD, take, drop}
 use Rattle.sequences.specs.Table.{table, overwritten}
-use Rattle.interval_graph.specs.Tree.{parent, last, component, depth, rank, lastRank}
+use Rattle.interval_graph.specs.Tree.{parent, component, depth, rank, lastRank}
 use Rattle.interval_graph.specs.Numbers.{Numbers, numbersOf}
 use Rattle.plan.specs.File.{planNumber, windowCount}
 use Rattle.plan.specs.Overlap.{overlaps}
@@ -14,7 +14,7 @@ use Rattle.plan.specs.Validation.{AcceptedPlan}
 use Rattle.tag.specs.declared.reader.Tag.{Tag}
 use Rattle.tag.specs.declared.reader.TagRead.the-variants as TagRead
 use Rattle.tag.specs.declared.writer.WriteAnswer.the-variants as WriteAnswer
-use Rattle.tag.specs.Fields.{tagLength, numbers, tagWith, tagBytes}
+use Rattle.tag.specs.Fields.{tagLength, numbers, tagWith}
 use Rattle.tag.specs.Reading.{readAnswerOf}
 use Rattle.tag.specs.Writing.{writeAnswerOf, afterWrite}
 use Rattle.tag.specs.TagFile.{tagFile}
@@ -22,7 +22,7 @@ use Rattle.tree.specs.declared.answers.BuildAnswer.{BuildAnswer}
 use Rattle.tree.specs.declared.answers.BuildAnswer.the-variants as BuildAnswer
 use Rattle.minutes.specs.Tables.{parentOf}
 use Rattle.tree.specs.Tables.{componentOf, depthOf, rankOf, lastRankOf, componentCount, numbersAt}
-use Rattle.tree.specs.Build.{tablesFit, buildAnswerOf, afterBuild, afterTags}
+use Rattle.tree.specs.Build.{buildAnswerOf, afterBuild, afterTags}
 use Rattle.demands.specs.EndToEnd.{tagAt}
 
 -- What an answer of build leaves in the five tables and in the tag file, whatever was in them.

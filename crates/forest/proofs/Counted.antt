@@ -31,8 +31,7 @@ module _ (parent : ℕ → ℕ) where
   under-none u v other =
       ⊎-elim
       (λ t. absurd (other (ltb-true u v (and-left (ltb u v) (eqb (parent v) u) t)) (sym (eqb-true (parent v) u (and-right (ltb u v) (eqb (parent v) u) t)))))
-      (λ t. t)
-      (truth (under parent u v))
+      (λ t. t) (truth (under parent u v))
 
   -- No child stands at or before its parent.
   none-before : (u k : ℕ) → k ≤ suc u → passing (under parent u) 0 k ≡ []
@@ -77,8 +76,7 @@ module _ (n : ℕ) {parent : ℕ → ℕ} (forest : Forest parent) where
   -- All under u stand after it, so its size is known once the pass is at u.
   pub sizes-known : (u v : ℕ) → u < n → v ≤ suc u → v ≤ n → sizesFrom n parent v u ≡ size n parent u
   unfolding total
-  sizes-known u v h le within =
-      omega (arith, sizes-split u v h within, ap (total (size n parent)) (none-before parent u v le))
+  sizes-known u v h le within = omega (arith, sizes-split u v h within, ap (total (size n parent)) (none-before parent u v le))
 
   -- One window more, v, from the end: it counts for its parent and for no other.
   module _ (v : ℕ) (h : v < n) where
@@ -87,12 +85,10 @@ module _ (n : ℕ) {parent : ℕ → ℕ} (forest : Forest parent) where
 
     pub sizes-parent : parent v < v → sizesFrom n parent v (parent v) ≡ sizesFrom n parent (suc v) (parent v) + size n parent v
     unfolding total
-    sizes-parent below =
-        rw (width, passing-true (under parent (parent v)) v (n - suc v) (under-parent parent v below)) (omega arith)
+    sizes-parent below = rw (width, passing-true (under parent (parent v)) v (n - suc v) (under-parent parent v below)) (omega arith)
 
     pub sizes-other : (u : ℕ) → (u < v → u ≡ parent v → ⊥) → sizesFrom n parent v u ≡ sizesFrom n parent (suc v) u
-    sizes-other u other =
-        rw (width, passing-false (under parent u) v (n - suc v) (under-none parent u v other))
+    sizes-other u other = rw (width, passing-false (under parent u) v (n - suc v) (under-none parent u v other))
 
   -- A child's list begins where its parent's does, behind its earlier siblings.
   pub starts-child : (v : ℕ) → parent v < v → startsTo n parent v (parent v) ≡ start n parent v
@@ -110,8 +106,7 @@ module _ (n : ℕ) {parent : ℕ → ℕ} (forest : Forest parent) where
   one-more p v =
       let e : suc v ≡ v + 1 = omega arith in
       let z : 0 + v ≡ v = omega arith in
-      ap (λ k. total (size n parent) (passing p 0 k)) e
-      ∙ (ap (total (size n parent)) (passing-add p 0 v 1)
+      ap (λ k. total (size n parent) (passing p 0 k)) e ∙ (ap (total (size n parent)) (passing-add p 0 v 1)
       ∙ (total-append (size n parent) (passing p 0 v) (passing p (0 + v) 1)
       ∙ ap (λ a. total (size n parent) (passing p 0 v) + total (size n parent) (passing p a 1)) z))
 

@@ -1,7 +1,7 @@
 -- The pass that numbers components and depths: its invariant, and one turn of it, at a root and at a child.
 -- Vocabulary: Leveled, leveled-start, leveled-root, leveled-child.
 -- Assumes nothing.
-use Prim.Native.Nat.{ℕ, suc, _+_, _≤_, _<_}
+use Prim.Native.Nat.{ℕ, _+_, _≤_, _<_}
 use mathlib.Core.Path.{_≡_, refl, sym, ap, _∙_}
 use mathlib.Core.List.{List}
 use native.Mathlib.Omega.{arith}
@@ -12,7 +12,7 @@ use Rattle.sequences.proofs.Search.{count-le, count-true, count-false}
 use Rattle.sequences.proofs.Table.{Filling, filling-start, filling-turn, filling-at}
 use Rattle.interval_graph.specs.Forest.{Forest, isRoot, depth, component}
 use Rattle.interval_graph.proofs.Depth.{fixed-root, below-not-root, fixed-is-root, fixed-depth, root-of-parent, depth-step, depth-le}
-use Rattle.interval_graph.proofs.Component.{root-component, component-le}
+use Rattle.interval_graph.proofs.Component.{root-component}
 
 -- Before a position: the roots so far are counted, and both tables are being filled.
 pub record Leveled (parent : ℕ → ℕ) (n : ℕ) (components₀ depths₀ components depths : List ℕ) (roots position : ℕ) : Type 0 where
@@ -68,8 +68,7 @@ module _ {parent : ℕ → ℕ} (forest : Forest parent) (n : ℕ) (components�
                 ∙ root-component forest (parent v) v (root-of-parent forest v))) (s .components-filling);
             depths-filling = filling-turn (depth parent) n depths₀ depths v (getD depths p 0 + 1) d-room h (omega (
               arith,
-              filling-at
-                  (depth parent) n depths₀ depths v p 0 before (s .depths-filling),
+              filling-at (depth parent) n depths₀ depths v p 0 before (s .depths-filling),
               ap (depth parent) same,
               depth-step forest v below,
             )) (s .depths-filling);

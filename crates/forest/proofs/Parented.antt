@@ -5,7 +5,6 @@ use Prim.Native.Nat.{ℕ, _≤_, _<_, min}
 use mathlib.Core.Path.{_≡_}
 use mathlib.Core.List.{List}
 use native.Mathlib.Omega.{arith}
-use lib.ListN.{length, getD}
 use Rattle.sequences.specs.Table.{Holds}
 use Rattle.interval_graph.specs.Forest.{Forest}
 use Rattle.plan.specs.Validation.{greatestCount}

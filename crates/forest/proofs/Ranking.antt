@@ -9,7 +9,6 @@ use native.Mathlib.Omega.{arith}
 use native.Mathlib.Numerals.{add-one}
 use lib.ListN.{length, getD, set, length-set}
 use lib.Seq.{getD-set-same, getD-set-other}
-use Rattle.sequences.specs.Table.{Holds}
 use Rattle.sequences.proofs.Tests.{equal-or-not, lt-or-ge}
 use Rattle.sequences.proofs.Table.{Filling, filling-start, filling-turn}
 use Rattle.interval_graph.specs.Forest.{Forest, rank, size, start}
@@ -52,8 +51,7 @@ module _ {parent : ℕ → ℕ} (forest : Forest parent) (n p v k : ℕ) (h : v 
           filling = filling-turn (rank n parent) n ranks₀ ranks v (start′ + k - 1) fits h (omega (arith, rank-size n forest v h)) (s .filling);
           long = length-set next′ v start′ ∙ (kept ∙ s .long);
           starts = λ u uv.
-              rw (add-one v)
-              (⊎-elim (λ g. getD-set-other next′ v u start′ 0 (omega arith) ∙ earlier u g)
+              rw (add-one v) (⊎-elim (λ g. getD-set-other next′ v u start′ 0 (omega arith) ∙ earlier u g)
               (λ g. let e : u ≡ v = omega arith in
               rw e (getD-set-same next′ v start′ 0 (omega (arith, kept, s .long)) ∙ (begins ∙ sym (starts-own n forest v)))) (lt-or-ge u v));
         }
@@ -62,17 +60,14 @@ module _ {parent : ℕ → ℕ} (forest : Forest parent) (n p v k : ℕ) (h : v 
       -- A root sets nothing aside.
       pub ranked-root : v ≤ p → Ranked n parent next₀ ranks₀ (set next v 0) (set ranks v (0 + k - 1)) (v + 1)
       ranked-root root =
-          turn next 0 room fits (root-start root) refl
-          (λ u uv. s .starts u uv ∙ sym (starts-other n forest u v (λ l e. omega arith)))
+          turn next 0 room fits (root-start root) refl (λ u uv. s .starts u uv ∙ sym (starts-other n forest u v (λ l e. omega arith)))
 
       -- A child's size is set aside in its parent's list.
       pub ranked-child : p < v → Ranked n parent next₀ ranks₀ (set (set next p (getD next p 0 + k)) v (getD next p 0)) (set ranks v
           (getD next p 0 + k - 1)) (v + 1)
       ranked-child below =
-          turn (set next p x) (getD next p 0) room fits (child-start below) (length-set next p x)
-          (λ u uv.
-          ⊎-elim
-          (λ here. rw here
+          turn (set next p x) (getD next p 0) room fits (child-start below) (length-set next p x) (λ u uv.
+          ⊎-elim (λ here. rw here
           (omega (arith, getD-set-same next p x 0 (omega (arith, s .long)), s .starts p below, rw (← same) at (starts-parent n forest v (rw same at below)))))
           (λ other.
           getD-set-other next p u x 0 other ∙ (s .starts u uv ∙ sym (starts-other n forest u v (λ l e. other (e ∙ sym same)))))

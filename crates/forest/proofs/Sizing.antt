@@ -2,11 +2,11 @@
 -- Vocabulary: Sized, sized-start, sized-child, sized-root, sized-end.
 -- Assumes nothing.
 use Prim.Native.Nat.{ℕ, suc, _+_, _-_, _≤_, _<_}
-use mathlib.Core.Path.{_≡_, refl, sym, ap, _∙_}
+use mathlib.Core.Path.{_≡_, sym, ap, _∙_}
 use mathlib.Core.Logic.{⊎-elim}
 use mathlib.Core.List.{List}
 use native.Mathlib.Omega.{arith}
-use lib.ListN.{length, getD, set, length-set, replicate, length-replicate, getD-replicate}
+use lib.ListN.{getD, set, length-set, replicate, length-replicate, getD-replicate}
 use lib.Seq.{getD-set-same, getD-set-other}
 use Rattle.sequences.specs.Table.{Holds}
 use Rattle.sequences.proofs.Tests.{equal-or-not}
@@ -16,8 +16,7 @@ use Rattle.forest.proofs.Counted.{sizesFrom, sizes-none, sizes-known, s
 
 -- Each window under itself, before any other is added.
 pub ones-held : (n m : ℕ) → n ≤ m → Holds (replicate m 1) (λ _. 1) n
-ones-held n m le =
-    record { long = omega (arith, length-replicate {A = ℕ} m 1); at = λ k h. getD-replicate m k 1 0 (omega arith) }
+ones-held n m le = record { long = omega (arith, length-replicate {A = ℕ} m 1); at = λ k h. getD-replicate m k 1 0 (omega arith) }
 
 -- With the windows from `left` on added up.
 pub record Sized (n : ℕ) (parent : ℕ → ℕ) (sizes : List ℕ) (left : ℕ) : Type 0 where
@@ -63,19 +62,15 @@ module _ {parent : ℕ → ℕ} (forest : Forest parent) (n : ℕ) (sizes : List
           held = record {
             long = omega (arith, whole .held .long, length-set sizes p (getD sizes p 0 + getD sizes v 0));
             at = λ k h.
-                ⊎-elim
-                (λ here. rw here
-                (omega (
+                ⊎-elim (λ here. rw here (omega (
                   arith,
                   getD-set-same sizes p (getD sizes p 0 + getD sizes v 0) 0 (omega (arith, whole .held .long, whole .within)),
                   whole .held .at p (omega (arith, whole .within)),
                   own,
                   rw (← same) at (sizes-parent n forest v (whole .within) (rw same at below)),
-                )))
-                (λ other.
+                ))) (λ other.
                 getD-set-other sizes p k (getD sizes p 0 + getD sizes v 0) 0 other
-                ∙ (whole .held .at k h ∙ sym (sizes-other n forest v (whole .within) k (λ l e. other (e ∙ sym same)))))
-                (equal-or-not k p);
+                ∙ (whole .held .at k h ∙ sym (sizes-other n forest v (whole .within) k (λ l e. other (e ∙ sym same))))) (equal-or-not k p);
           };
         }
 

@@ -25,8 +25,7 @@ module _ {n : ℕ} {first second : ℕ → ℕ} (later : Forest second) (same : 
   ancestor-agrees : (i v : ℕ) → v < n → ancestor first i v ≡ ancestor second i v
   unfolding ancestor
   ancestor-agrees zero v h = refl
-  ancestor-agrees (suc i) v h =
-      ap first (ancestor-agrees i v h) ∙ same (ancestor second i v) (ancestor-below later i v h)
+  ancestor-agrees (suc i) v h = ap first (ancestor-agrees i v h) ∙ same (ancestor second i v) (ancestor-below later i v h)
 
   -- The depth depends on the parents of windows only.
   pub depth-agrees : (v : ℕ) → v < n → depth first v ≡ depth second v
@@ -56,8 +55,7 @@ module _ {n : ℕ} {first second : ℕ → ℕ} (later : Forest second) (same : 
   unfolding postOrderTo
   postOrder-agrees zero v = refl
   postOrder-agrees (suc levels) v =
-      ap (λ (c : List ℕ). flatMap (postOrderTo n first levels) c ++ (v ∷ [])) (children-agrees v)
-      ∙ ap (λ (l : List ℕ). l ++ (v ∷ []))
+      ap (λ (c : List ℕ). flatMap (postOrderTo n first levels) c ++ (v ∷ [])) (children-agrees v) ∙ ap (λ (l : List ℕ). l ++ (v ∷ []))
       (flatMap-cong (postOrderTo n first levels) (postOrderTo n second levels) (children n second v) (λ c m. postOrder-agrees levels c))
 
   -- The rank depends on the parents of windows only.

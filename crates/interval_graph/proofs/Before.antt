@@ -33,14 +33,12 @@ module _ (overlaps : ℕ → ℕ → Bool) where
   -- Of two windows one at most comes before the other.
   pub before-asymmetric : (x y : ℕ) → Before overlaps x y → Before overlaps y x → ⊥
   before-asymmetric x y p q =
-      ⊎-elim
-      (λ h. let k = depth overlaps y - suc (depth overlaps x) in
+      ⊎-elim (λ h. let k = depth overlaps y - suc (depth overlaps x) in
       omega (arith, p .no-deeper (suc k) (omega arith), q .deeper k (omega arith)))
       (λ h. ⊎-elim (λ g. let k = depth overlaps x - suc (depth overlaps y) in
       omega (arith, q .no-deeper (suc k) (omega arith), p .deeper k (omega arith)))
       (λ g. omega (arith, p .no-deeper 0 (omega arith), q .no-deeper 0 (omega arith), ancestor-zero (tree overlaps) x, ancestor-zero (tree overlaps) y))
-      (lt-or-ge (depth overlaps y) (depth overlaps x)))
-      (lt-or-ge (depth overlaps x) (depth overlaps y))
+      (lt-or-ge (depth overlaps y) (depth overlaps x))) (lt-or-ge (depth overlaps x) (depth overlaps y))
 
   -- No window comes before itself.
   pub before-irreflexive : (x : ℕ) → Before overlaps x x → ⊥
@@ -58,8 +56,7 @@ module _ {n : ℕ} {overlaps : ℕ → ℕ → Bool} (ok : IntervalOrder n overl
         deeper = λ k s.
             ⊎-elim
             (λ g. absurd (omega (arith, ancestor-monotone ok (q .steps) y (ancestor overlaps (suc k) x) (omega arith) (ancestor-below (tree overlaps) (suc k) x (p .window)), q .up, level-up (suc k) x (q .steps) (p .steps) (omega (arith, p .deeper, q .deeper)), p .up)))
-            (λ g. g)
-            (lt-or-ge y (ancestor overlaps (suc k) x));
+            (λ g. g) (lt-or-ge y (ancestor overlaps (suc k) x));
       }
     where
       level-up : (k z i j : ℕ) → j ≡ i + k → ancestor overlaps i (ancestor overlaps k z) ≡ ancestor overlaps j z
@@ -110,8 +107,7 @@ module _ {n : ℕ} {overlaps : ℕ → ℕ → Bool} (ok : IntervalOrder n overl
   -- What comes before has the smaller rank.
   pub before-rank : (x y : ℕ) → x < n → y < n → root overlaps x ≡ root overlaps y → Before overlaps x y → rank n overlaps x < rank n overlaps y
   before-rank x y h g e p =
-      ⊎-elim (λ l. l)
-      (λ l. absurd (⊎-elim (λ m. before-asymmetric overlaps x y p (rank-before y x g h (sym e) m))
+      ⊎-elim (λ l. l) (λ l. absurd (⊎-elim (λ m. before-asymmetric overlaps x y p (rank-before y x g h (sym e) m))
       (λ m. let s : x ≡ y = rank-injective n (tree overlaps) x y h g e (omega arith) in before-irreflexive overlaps y (rw s at p)) (lt-or-ge (rank n overlaps y) (rank n overlaps x))))
       (lt-or-ge (rank n overlaps x) (rank n overlaps y))
 
@@ -120,8 +116,7 @@ module _ {n : ℕ} {overlaps : ℕ → ℕ → Bool} (ok : IntervalOrder n overl
   rank-lt-iff x y k h g e d = (
     λ l. rank-before x y h g e l .no-deeper k d,
     λ l.
-        before-rank x y h g e
-        (record {
+        before-rank x y h g e (record {
           no-deeper = λ j s. let i : j ≡ k = omega arith in rw i l;
           deeper = λ j s. absurd (omega arith);
         }),
@@ -129,5 +124,4 @@ module _ {n : ℕ} {overlaps : ℕ → ℕ → Bool} (ok : IntervalOrder n overl
 
   -- The same, of x no deeper than y in one component.
   pub rank-compare : (x y : ℕ) → x < n → y < n → component overlaps x ≡ component overlaps y → depth overlaps x ≤ depth overlaps y → (rank n overlaps x < rank n overlaps y) ↔ (x < ancestor overlaps (depth overlaps y - depth overlaps x) y)
-  rank-compare x y h g e d =
-      rank-lt-iff x y (depth overlaps y - depth overlaps x) h g (component-root (tree overlaps) x y e) (omega arith)
+  rank-compare x y h g e d = rank-lt-iff x y (depth overlaps y - depth overlaps x) h g (component-root (tree overlaps) x y e) (omega arith)

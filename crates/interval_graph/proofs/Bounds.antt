@@ -40,8 +40,7 @@ module _ {n : ℕ} {overlaps : ℕ → ℕ → Bool} (ok : IntervalOrder n overl
       let c : k ≡ handovers (chainOf n overlaps a b) = least-is-chain ok a b k g l p in
       ⊎-elim (λ h. omega (arith, s h, chain-handovers ok a b h l e))
       (λ h. ⊎-elim (λ i. omega (arith, t i, chain-handovers ok b a i g (sym e), ap handovers (chain-symmetric n overlaps a b)))
-      (λ i. omega (arith, ap handovers (chain-same n overlaps a b (omega arith)), handovers-alone a)) (lt-or-ge b a))
-      (lt-or-ge a b)
+      (λ i. omega (arith, ap handovers (chain-same n overlaps a b (omega arith)), handovers-alone a)) (lt-or-ge b a)) (lt-or-ge a b)
 
   -- From a window to an earlier one of its component one climbs less than its position.
   climb-lt : (u v : ℕ) → u < v → v < n → root overlaps u ≡ root overlaps v → climb n overlaps u v < v
@@ -57,8 +56,7 @@ module _ {n : ℕ} {overlaps : ℕ → ℕ → Bool} (ok : IntervalOrder n overl
           (λ l. let behind : last n overlaps u < x = climb-before n overlaps u v d (omega arith) in
           ⊎-elim (λ m. omega (arith, ancestor-sum (tree overlaps) d v (omega arith), last-ge ok u, climb-le-depth ok u v e))
           (λ m. let r : root overlaps u ≡ u = omega (arith, root-le (tree overlaps) u) in absurd (omega (arith, ap (last n overlaps) r)))
-          (lt-or-ge (root overlaps u) u))
-          (lt-or-ge (climb n overlaps u v) (depth overlaps v))
+          (lt-or-ge (root overlaps u) u)) (lt-or-ge (climb n overlaps u v) (depth overlaps v))
 
   -- A least number of handovers is below the number of windows.
   pub least-lt : (a b k : ℕ) → a < n → b < n → LeastHandovers n overlaps a b k → k < n

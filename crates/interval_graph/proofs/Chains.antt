@@ -109,8 +109,7 @@ module _ (n : ℕ) (overlaps : ℕ → ℕ → Bool) where
   chain-snoc [] y c t h = absurd (chain-not-empty c)
   chain-snoc (x ∷ []) y c t h = chain-cons x y [] (chain-head x [] c) t (chain-alone y h)
   chain-snoc (x ∷ (z ∷ l)) y c t h =
-      chain-cons x z (l ++ (y ∷ [])) (chain-head x (z ∷ l) c) (chain-overlap x z l c)
-      (chain-snoc (z ∷ l) y (chain-tail x z l c) t h)
+      chain-cons x z (l ++ (y ∷ [])) (chain-head x (z ∷ l) c) (chain-overlap x z l c) (chain-snoc (z ∷ l) y (chain-tail x z l c) t h)
 
   -- A table of windows of which each overlaps the next is a chain.
   pub chain-table : (f : ℕ → ℕ) (k : ℕ) → ((i : ℕ) → i ≤ k → f i < n) → ((i : ℕ) → i < k → overlaps (f i) (f (suc i)) ≡ true) → isChain n overlaps (table f (suc k)) ≡ true
@@ -129,16 +128,14 @@ module _ (n : ℕ) (overlaps : ℕ → ℕ → Bool) where
   pub leads-first : (a b : ℕ) (l : List ℕ) → leads n overlaps a b l ≡ true → firstEntry l ≡ a
   unfolding leads
   leads-first a b l t =
-      eqb-true (firstEntry l) a
-      (and-left (eqb (firstEntry l) a) (eqb (lastEntry l) b)
+      eqb-true (firstEntry l) a (and-left (eqb (firstEntry l) a) (eqb (lastEntry l) b)
       (and-right (isChain n overlaps l) (eqb (firstEntry l) a && eqb (lastEntry l) b) t))
 
   -- Its last entry is b.
   pub leads-last : (a b : ℕ) (l : List ℕ) → leads n overlaps a b l ≡ true → lastEntry l ≡ b
   unfolding leads
   leads-last a b l t =
-      eqb-true (lastEntry l) b
-      (and-right (eqb (firstEntry l) a) (eqb (lastEntry l) b)
+      eqb-true (lastEntry l) b (and-right (eqb (firstEntry l) a) (eqb (lastEntry l) b)
       (and-right (isChain n overlaps l) (eqb (firstEntry l) a && eqb (lastEntry l) b) t))
 
   -- A chain with first entry a and last entry b leads from a to b.
@@ -221,5 +218,4 @@ module _ (n : ℕ) (overlaps : ℕ → ℕ → Bool) (symmetric : (u v : ℕ) �
 -- To read it from the later window alters no number of handovers.
 pub handovers-later : (a b : ℕ) (l : List ℕ) → handovers (fromLater a b l) ≡ handovers l
 unfolding fromLater
-handovers-later a b l =
-    cond-cases (λ m. handovers m ≡ handovers l) (eqb (firstEntry l) (max a b)) (λ t. refl) (λ t. handovers-reverse l)
+handovers-later a b l = cond-cases (λ m. handovers m ≡ handovers l) (eqb (firstEntry l) (max a b)) (λ t. refl) (λ t. handovers-reverse l)

@@ -48,8 +48,7 @@ module _ (n : ℕ) (overlaps : ℕ → ℕ → Bool) where
   -- Where k steps lead behind the last of u, and some steps to it, more than k are needed.
   pub climb-gt : (u v k : ℕ) → climb n overlaps u v ≤ v → last n overlaps u < ancestor overlaps k v → k < climb n overlaps u v
   climb-gt u v k r h =
-      ⊎-elim (λ g. g)
-      (λ g. absurd (omega (arith, climb-reaches u v r, ancestor-antitone (tree overlaps) (climb n overlaps u v) k v g)))
+      ⊎-elim (λ g. g) (λ g. absurd (omega (arith, climb-reaches u v r, ancestor-antitone (tree overlaps) (climb n overlaps u v) k v g)))
       (lt-or-ge k (climb n overlaps u v))
 
 module _ {n : ℕ} {overlaps : ℕ → ℕ → Bool} (ok : IntervalOrder n overlaps) where
@@ -65,8 +64,7 @@ module _ {n : ℕ} {overlaps : ℕ → ℕ → Bool} (ok : IntervalOrder n overl
 
   -- A position at most one of two windows that overlap has its parent at most the other.
   parent-le-neighbour : (x y w : ℕ) → x < n → overlaps x y ≡ true → w ≤ x → parent overlaps w ≤ y
-  parent-le-neighbour x y w h t l =
-      parent-least ok w y (omega (arith, neighbour-le-last ok y x h (ok .symmetric y x ∙ t)))
+  parent-le-neighbour x y w h t l = parent-least ok w y (omega (arith, neighbour-le-last ok y x h (ok .symmetric y x ∙ t)))
 
   -- From a position at most a chain's first entry, i steps up lead at or before its entry at i.
   pub ancestor-le-chain : (l : List ℕ) (x w i : ℕ) → isChain n overlaps (x ∷ l) ≡ true → w ≤ x → i < length (x ∷ l) → ancestor overlaps i w ≤ getD (x ∷ l) i 0

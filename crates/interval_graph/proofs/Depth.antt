@@ -32,8 +32,7 @@ module _ {parent : ℕ → ℕ} (forest : Forest parent) where
   pub not-root-below : (v : ℕ) → isRoot parent v ≡ false → parent v < v
   unfolding isRoot
   not-root-below v t =
-      ⊎-elim (λ h. h) (λ h. absurd (eqb-false (parent v) v t (omega (arith, forest .parent-le v))))
-      (lt-or-ge (parent v) v)
+      ⊎-elim (λ h. h) (λ h. absurd (eqb-false (parent v) v t (omega (arith, forest .parent-le v)))) (lt-or-ge (parent v) v)
 
   -- Steps that meet no root lower the position by as many, at least.
   pub ancestor-falls : (i v : ℕ) → ((j : ℕ) → j < i → isRoot parent (ancestor parent j v) ≡ false) → ancestor parent i v + i ≤ v
@@ -68,8 +67,7 @@ module _ {parent : ℕ → ℕ} (forest : Forest parent) where
       ⊎-elim (λ h. least-holds (λ i. isRoot parent (ancestor parent i v)) v h)
       (λ h. let d : depth parent v ≡ v = omega (arith, depth-le v) in
       let z : parent (ancestor parent (depth parent v) v) ≡ ancestor parent (depth parent v) v = omega (arith, ancestor-sum (depth parent v) v (omega arith), forest .parent-le (ancestor parent (depth parent v) v)) in
-      fixed-root _ z)
-      (lt-or-ge (depth parent v) v)
+      fixed-root _ z) (lt-or-ge (depth parent v) v)
 
   -- The root is its own parent.
   pub root-parent : (v : ℕ) → parent (root parent v) ≡ root parent v
@@ -86,8 +84,7 @@ module _ {parent : ℕ → ℕ} (forest : Forest parent) where
   unfolding root
   ancestor-past v i h =
       let e : i ≡ (i - depth parent v) + depth parent v = omega arith in
-      rw e
-      (ancestor-add forest (i - depth parent v) (depth parent v) v ∙ fixed-stays (i - depth parent v) (root parent v) (root-parent v))
+      rw e (ancestor-add forest (i - depth parent v) (depth parent v) v ∙ fixed-stays (i - depth parent v) (root parent v) (root-parent v))
 
   -- A root on the way up is the root.
   pub root-unique : (v i : ℕ) → isRoot parent (ancestor parent i v) ≡ true → ancestor parent i v ≡ root parent v

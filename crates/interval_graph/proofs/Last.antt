@@ -20,10 +20,8 @@ pub last-cases : (n : ℕ) (overlaps : ℕ → ℕ → Bool) (u : ℕ) → ((u <
 unfolding last
 last-cases n overlaps u =
     let z = greatest (λ w. ltb u w && overlaps u w) n u in
-    ⊎-elim
-    (λ h. inl (ltb-true u z (and-left (ltb u z) (overlaps u z) (h .1)), h .0, and-right (ltb u z) (overlaps u z) (h .1)))
-    (λ h. inr (h .0))
-    (greatest-cases (λ w. ltb u w && overlaps u w) n u)
+    ⊎-elim (λ h. inl (ltb-true u z (and-left (ltb u z) (overlaps u z) (h .1)), h .0, and-right (ltb u z) (overlaps u z) (h .1)))
+    (λ h. inr (h .0)) (greatest-cases (λ w. ltb u w && overlaps u w) n u)
 
 module _ {n : ℕ} {overlaps : ℕ → ℕ → Bool} (ok : IntervalOrder n overlaps) where
   -- The last of u is not before u.
@@ -37,16 +35,13 @@ module _ {n : ℕ} {overlaps : ℕ → ℕ → Bool} (ok : IntervalOrder n overl
   -- A later window that overlaps u is at most the last of u.
   pub overlap-last : (u v : ℕ) → u < v → v < n → overlaps u v ≡ true → v ≤ last n overlaps u
   unfolding last
-  overlap-last u v h g t =
-      greatest-ge (λ w. ltb u w && overlaps u w) n u v g (and-intro (ltb u v) (overlaps u v) (lt-ltb u v h) t)
+  overlap-last u v h g t = greatest-ge (λ w. ltb u w && overlaps u w) n u v g (and-intro (ltb u v) (overlaps u v) (lt-ltb u v h) t)
 
   -- A later window at most the last of u overlaps u.
   pub last-overlap : (u v : ℕ) → u < v → v ≤ last n overlaps u → overlaps u v ≡ true
   last-overlap u v h g =
-      ⊎-elim
-      (λ c. ⊎-elim (λ b. ok .between u v (last n overlaps u) h b (c .1) (c .2))
-      (λ b. let e : v ≡ last n overlaps u = omega arith in rw e (c .2)) (lt-or-ge v (last n overlaps u)))
-      (λ c. absurd (omega arith))
+      ⊎-elim (λ c. ⊎-elim (λ b. ok .between u v (last n overlaps u) h b (c .1) (c .2))
+      (λ b. let e : v ≡ last n overlaps u = omega arith in rw e (c .2)) (lt-or-ge v (last n overlaps u))) (λ c. absurd (omega arith))
       (last-cases n overlaps u)
 
   -- For u before v, they overlap exactly if v is at most the last of u.
@@ -55,8 +50,7 @@ module _ {n : ℕ} {overlaps : ℕ → ℕ → Bool} (ok : IntervalOrder n overl
 
   -- A window that overlaps u is at most the last of u, on whichever side of u it stands.
   pub neighbour-le-last : (u v : ℕ) → v < n → overlaps u v ≡ true → v ≤ last n overlaps u
-  neighbour-le-last u v g t =
-      ⊎-elim (λ h. overlap-last u v h g t) (λ h. omega (arith, last-ge u)) (lt-or-ge u v)
+  neighbour-le-last u v g t = ⊎-elim (λ h. overlap-last u v h g t) (λ h. omega (arith, last-ge u)) (lt-or-ge u v)
 
   -- Two windows that overlap are two.
   pub overlap-distinct : (u v : ℕ) → overlaps u v ≡ true → u ≡ v → ⊥

@@ -42,8 +42,7 @@ module _ {n : ℕ} {overlaps : ℕ → ℕ → Bool} (ok : IntervalOrder n overl
   level-behind : (u v D i k : ℕ) → Pair n overlaps u v D → D ≡ i + k → depth overlaps (last n overlaps u) < depth overlaps u + k → last n overlaps u < ancestor overlaps i v
   level-behind u v D i k p e h =
       shallower-earlier ok (last n overlaps u) (ancestor overlaps i v) (last-below ok u (omega (arith, p .order, p .window)))
-      (last-root ok u (omega (arith, p .order, p .window)) ∙ sym (level-root u v D i p))
-      (omega (arith, level-depth u v D i k p e))
+      (last-root ok u (omega (arith, p .order, p .window)) ∙ sym (level-root u v D i p)) (omega (arith, level-depth u v D i k p e))
 
   -- climb
 
@@ -52,10 +51,8 @@ module _ {n : ℕ} {overlaps : ℕ → ℕ → Bool} (ok : IntervalOrder n overl
   climb-at-level u v zero p h g = omega (arith, climb-le n overlaps u v 0 g)
   climb-at-level u v (suc D) p h g =
       let x = ancestor overlaps D v in
-      ⊎-elim
-      (λ l. omega (arith, climb-le n overlaps u v (suc D) g, climb-gt n overlaps u v D (climb-le-position ok u v (p .one-root)) l))
-      (λ l. absurd (omega (arith, parent-least ok x u l, ancestor-suc (tree overlaps) D v)))
-      (lt-or-ge (last n overlaps u) x)
+      ⊎-elim (λ l. omega (arith, climb-le n overlaps u v (suc D) g, climb-gt n overlaps u v D (climb-le-position ok u v (p .one-root)) l))
+      (λ l. absurd (omega (arith, parent-least ok x u l, ancestor-suc (tree overlaps) D v))) (lt-or-ge (last n overlaps u) x)
 
   -- Where u stands before w, and w is behind the last of u, one climbs D + 1 steps.
   pub climb-past-level : (u v D : ℕ) → Pair n overlaps u v D → u < ancestor overlaps D v → last n overlaps u < ancestor overlaps D v → climb n overlaps u v ≡ suc D
@@ -103,12 +100,10 @@ module _ {n : ℕ} {overlaps : ℕ → ℕ → Bool} (ok : IntervalOrder n overl
   pub last-rank-deeper : (u : ℕ) → u < n → depth overlaps (last n overlaps u) ≡ suc (depth overlaps u) → rank n overlaps (last n overlaps u) < rank n overlaps u
   last-rank-deeper u h e =
       let z = last n overlaps u in
-      ⊎-elim (λ l. l)
-      (λ l. absurd (⊎-elim
+      ⊎-elim (λ l. l) (λ l. absurd (⊎-elim
       (λ m. omega (arith, rank-lt-iff ok u z 1 h (last-below ok u h) (sym (last-root ok u h)) (omega arith) .0 m, ancestor-suc (tree overlaps) 0 z, ap (parent overlaps) (ancestor-zero (tree overlaps) z), parent-least ok z u (omega arith)))
       (λ m. let s : u ≡ z = rank-injective n (tree overlaps) u z h (last-below ok u h) (sym (last-root ok u h)) (omega arith) in omega (arith, ap (depth overlaps) s))
-      (lt-or-ge (rank n overlaps u) (rank n overlaps z))))
-      (lt-or-ge (rank n overlaps z) (rank n overlaps u))
+      (lt-or-ge (rank n overlaps u) (rank n overlaps z)))) (lt-or-ge (rank n overlaps z) (rank n overlaps u))
 
   -- ranks tell
 
@@ -117,11 +112,9 @@ module _ {n : ℕ} {overlaps : ℕ → ℕ → Bool} (ok : IntervalOrder n overl
   rank-leb : (z v k : ℕ) → z < n → v < n → root overlaps z ≡ root overlaps v → depth overlaps v ≡ depth overlaps z + k → leb (rank n overlaps v) (rank n overlaps z) ≡ leb (ancestor overlaps k v) z
   rank-leb z v k h g e d =
       let less = rank-lt-iff ok z v k h g e d in
-      ⊎-elim
-      (λ l. lt-leb (rank n overlaps v) (rank n overlaps z) (less .1 l) ∙ sym (lt-leb (ancestor overlaps k v) z l))
+      ⊎-elim (λ l. lt-leb (rank n overlaps v) (rank n overlaps z) (less .1 l) ∙ sym (lt-leb (ancestor overlaps k v) z l))
       (λ l. le-leb (rank n overlaps v) (rank n overlaps z) (⊎-elim (λ m. absurd (omega (arith, less .0 m))) (λ m. m) (lt-or-ge (rank n overlaps z) (rank n overlaps v)))
-      ∙ sym (le-leb (ancestor overlaps k v) z l))
-      (lt-or-ge z (ancestor overlaps k v))
+      ∙ sym (le-leb (ancestor overlaps k v) z l)) (lt-or-ge z (ancestor overlaps k v))
 
   -- Whether w is at most the last of u.
   pub ranks-at-level : (u v D : ℕ) → Pair n overlaps u v D → (leb (rank n overlaps v) (rank n overlaps (last n overlaps u)) || ltb (rank n overlaps (last n overlaps u)) (rank n overlaps u)) ≡ leb (ancestor overlaps D v) (last n overlaps u)
@@ -130,12 +123,10 @@ module _ {n : ℕ} {overlaps : ℕ → ℕ → Bool} (ok : IntervalOrder n overl
       let h : u < n = omega (arith, p .order, p .window) in
       let s = leb (rank n overlaps v) (rank n overlaps z) in
       let t = ltb (rank n overlaps z) (rank n overlaps u) in
-      ⊎-elim
-      (λ e. or-false-right s t (le-ltb (rank n overlaps z) (rank n overlaps u) (last-rank-level u h e))
+      ⊎-elim (λ e. or-false-right s t (le-ltb (rank n overlaps z) (rank n overlaps u) (last-rank-level u h e))
       ∙ rank-leb z v D (last-below ok u h) (p .window) (last-root ok u h ∙ p .one-root) (omega (arith, p .levels)))
       (λ e. or-right s t (lt-ltb (rank n overlaps z) (rank n overlaps u) (last-rank-deeper u h e))
-      ∙ sym (le-leb (ancestor overlaps D v) z (omega (arith, level-before u v D p h e))))
-      (last-level u h)
+      ∙ sym (le-leb (ancestor overlaps D v) z (omega (arith, level-before u v D p h e)))) (last-level u h)
     where
       level-before : (u v D : ℕ) → Pair n overlaps u v D → u < n → depth overlaps (last n overlaps u) ≡ suc (depth overlaps u) → ancestor overlaps D v < last n overlaps u
       level-before u v D p h e =
@@ -149,9 +140,7 @@ module _ {n : ℕ} {overlaps : ℕ → ℕ → Bool} (ok : IntervalOrder n overl
       let h : u < n = omega (arith, p .order, p .window) in
       let s = leb (rank n overlaps v) (rank n overlaps z) in
       let t = ltb (rank n overlaps z) (rank n overlaps u) in
-      ⊎-elim
-      (λ e. and-false-right s t (le-ltb (rank n overlaps z) (rank n overlaps u) (last-rank-level u h e))
+      ⊎-elim (λ e. and-false-right s t (le-ltb (rank n overlaps z) (rank n overlaps u) (last-rank-level u h e))
       ∙ sym (lt-leb (ancestor overlaps D v) z (level-behind u v (suc D) D 1 p (omega arith) (omega arith))))
       (λ e. and-true-right s t (lt-ltb (rank n overlaps z) (rank n overlaps u) (last-rank-deeper u h e))
-      ∙ rank-leb z v D (last-below ok u h) (p .window) (last-root ok u h ∙ p .one-root) (omega (arith, p .levels)))
-      (last-level u h)
+      ∙ rank-leb z v D (last-below ok u h) (p .window) (last-root ok u h ∙ p .one-root) (omega (arith, p .levels))) (last-level u h)

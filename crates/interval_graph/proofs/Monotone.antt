@@ -43,8 +43,7 @@ module _ {n : ℕ} {overlaps : ℕ → ℕ → Bool} (ok : IntervalOrder n overl
 
   -- In one component the less deep of two windows is the earlier.
   pub shallower-earlier : (u v : ℕ) → u < n → root overlaps u ≡ root overlaps v → depth overlaps u < depth overlaps v → u < v
-  shallower-earlier u v g e h =
-      ⊎-elim (λ l. l) (λ l. absurd (omega (arith, depth-monotone v u l g (sym e)))) (lt-or-ge u v)
+  shallower-earlier u v g e h = ⊎-elim (λ l. l) (λ l. absurd (omega (arith, depth-monotone v u l g (sym e)))) (lt-or-ge u v)
 
   -- What stands between a window's parent and the window is in its component.
   pub root-between : (u v : ℕ) → parent overlaps v ≤ u → u ≤ v → v < n → root overlaps u ≡ root overlaps v
@@ -58,8 +57,7 @@ module _ {n : ℕ} {overlaps : ℕ → ℕ → Bool} (ok : IntervalOrder n overl
 
   -- The last of a window is at least as deep.
   pub last-depth-ge : (u : ℕ) → u < n → depth overlaps u ≤ depth overlaps (last n overlaps u)
-  last-depth-ge u g =
-      depth-monotone u (last n overlaps u) (last-ge ok u) (last-below ok u g) (sym (last-root u g))
+  last-depth-ge u g = depth-monotone u (last n overlaps u) (last-ge ok u) (last-below ok u g) (sym (last-root u g))
 
   -- The last of a window is at most one deeper.
   pub last-depth-le : (u : ℕ) → u < n → depth overlaps (last n overlaps u) ≤ suc (depth overlaps u)
@@ -72,10 +70,8 @@ module _ {n : ℕ} {overlaps : ℕ → ℕ → Bool} (ok : IntervalOrder n overl
   -- Windows that overlap are in one component.
   pub overlap-root : (u v : ℕ) → u < n → v < n → overlaps u v ≡ true → root overlaps u ≡ root overlaps v
   overlap-root u v l g t =
-      ⊎-elim
-      (λ h. root-between u v (parent-least ok v u (overlap-last ok u v h g t)) (omega arith) g)
-      (λ h. sym (root-between v u (parent-least ok u v (neighbour-le-last ok v u l (ok .symmetric v u ∙ t))) h l))
-      (lt-or-ge u v)
+      ⊎-elim (λ h. root-between u v (parent-least ok v u (overlap-last ok u v h g t)) (omega arith) g)
+      (λ h. sym (root-between v u (parent-least ok u v (neighbour-le-last ok v u l (ok .symmetric v u ∙ t))) h l)) (lt-or-ge u v)
 
   -- The component of v is one less than the number of roots up to v.
   pub component-roots : (v : ℕ) → v < n → count (isRoot overlaps) (suc v) ≡ suc (component overlaps v)
@@ -83,8 +79,7 @@ module _ {n : ℕ} {overlaps : ℕ → ℕ → Bool} (ok : IntervalOrder n overl
   component-roots v g =
       let r = root overlaps v in
       let e : suc v ≡ suc r + (v - r) = omega (arith, root-le (tree overlaps) v) in
-      rw e
-      (count-none (isRoot overlaps) (suc r) (v - r) none ∙ count-true (isRoot overlaps) r (root-is-root (tree overlaps) v))
+      rw e (count-none (isRoot overlaps) (suc r) (v - r) none ∙ count-true (isRoot overlaps) r (root-is-root (tree overlaps) v))
     where
       none : (i : ℕ) → suc (root overlaps v) ≤ i → i < suc (root overlaps v) + (v - root overlaps v) → isRoot overlaps i ≡ false
       none i l h =
@@ -116,5 +111,4 @@ module _ {n : ℕ} {overlaps : ℕ → ℕ → Bool} (ok : IntervalOrder n overl
 
   -- What stands between two windows of one component is in it.
   pub component-contiguous : (u w v : ℕ) → u ≤ w → w ≤ v → v < n → component overlaps u ≡ component overlaps v → component overlaps w ≡ component overlaps u
-  component-contiguous u w v l h g e =
-      omega (arith, component-monotone u w l (omega arith), component-monotone w v h g)
+  component-contiguous u w v l h g e = omega (arith, component-monotone u w l (omega arith), component-monotone w v h g)

@@ -36,8 +36,7 @@ module _ (u v : Numbers) where
   pub between-falling-far : v .rank ≤ u .rank → (u .last < v .rank) ⊎ (u .rank ≤ u .last) → between u v ≡ v .depth - u .depth + 1
   unfolding between
   between-falling-far falling far =
-      rw (le-ltb _ _ falling)
-      (cond-cases (λ k. k ≡ v .depth - u .depth + 1) (leb (v .rank) (u .last) && ltb (u .last) (u .rank))
+      rw (le-ltb _ _ falling) (cond-cases (λ k. k ≡ v .depth - u .depth + 1) (leb (v .rank) (u .last) && ltb (u .last) (u .rank))
       (λ t. absurd (⊎-elim (λ h. omega (arith, leb-true (v .rank) (u .last) (and-left _ _ t)))
       (λ h. omega (arith, ltb-true (u .last) (u .rank) (and-right (leb (v .rank) (u .last)) _ t))) far)) (λ t. refl))
 
@@ -127,12 +126,10 @@ module _ (u v : Numbers) where
 -- The order in which two windows are named does not count.
 pub outcome-symmetric : (u v : Numbers) → outcome u v ≡ outcome v u
 outcome-symmetric u v =
-    ⊎-elim
-    (λ t. outcome-equal u v t ∙ sym (outcome-equal v u (equal-symmetric v u ∙ t)))
+    ⊎-elim (λ t. outcome-equal u v t ∙ sym (outcome-equal v u (equal-symmetric v u ∙ t)))
     (λ t. ⊎-elim (λ one. one-component t (sym (equal-symmetric u v) ∙ t) (eqb-true _ _ one))
     (λ two. outcome-components u v t (eqb-false _ _ two) ∙ sym (outcome-components v u (equal-symmetric v u ∙ t) (λ e. eqb-false _ _ two (sym e))))
-    (truth (eqb (u .component) (v .component))))
-    (truth (equal u v))
+    (truth (eqb (u .component) (v .component)))) (truth (equal u v))
   where
     both : comesFirst u v ≡ true → comesFirst v u ≡ true → ⊥
     both s s′ =
@@ -147,13 +144,10 @@ outcome-symmetric u v =
 
     one-component : equal u v ≡ false → equal v u ≡ false → u .component ≡ v .component → outcome u v ≡ outcome v u
     one-component t t′ e =
-        ⊎-elim
-        (λ s. outcome-first u v t e s
+        ⊎-elim (λ s. outcome-first u v t e s
         ∙ ⊎-elim (λ s′. absurd (both s s′)) (λ s′. sym (outcome-second v u t′ (sym e) s′)) (truth (comesFirst v u)))
-        (λ s. outcome-second u v t e s
-        ∙ ⊎-elim (λ s′. sym (outcome-first v u t′ (sym e) s′))
-        (λ s′. ap apart (neither s s′) ∙ sym (outcome-second v u t′ (sym e) s′)) (truth (comesFirst v u)))
-        (truth (comesFirst u v))
+        (λ s. outcome-second u v t e s ∙ ⊎-elim (λ s′. sym (outcome-first v u t′ (sym e) s′))
+        (λ s′. ap apart (neither s s′) ∙ sym (outcome-second v u t′ (sym e) s′)) (truth (comesFirst v u))) (truth (comesFirst u v))
 
 -- A count is at most two more than the greater depth.
 pub outcome-most : (u v : Numbers) (depth k : ℕ) → u .depth ≤ depth → v .depth ≤ depth → outcome u v ≡ apart k → k ≤ depth + 2
@@ -162,8 +156,7 @@ outcome-most u v depth k hu hv =
     cond-cases (λ o. o ≡ apart k → k ≤ depth + 2) (equal u v) (λ t e. omega (arith, counts 0 e))
     (λ t. cond-cases (λ o. o ≡ apart k → k ≤ depth + 2) (eqb (u .component) (v .component))
     (λ s. cond-cases (λ m. apart m ≡ apart k → k ≤ depth + 2) (comesFirst u v)
-    (λ f e. omega (arith, counts (between u v) e, between-most u v))
-    (λ f e. omega (arith, counts (between v u) e, between-most v u)))
+    (λ f e. omega (arith, counts (between u v) e, between-most u v)) (λ f e. omega (arith, counts (between v u) e, between-most v u)))
     (λ s e. let z : _≡_ {A = ℕ} 0 1 = cc in absurd (omega arith)))
   where
     counts : (m : ℕ) → apart m ≡ apart k → m ≡ k

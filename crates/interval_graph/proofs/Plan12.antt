@@ -26,8 +26,7 @@ lengths = 10 ∷ 3 ∷ 12 ∷ 2 ∷ 6 ∷ 1 ∷ 4 ∷ []
 -- Two different windows overlap when the later offset lies before the earlier end.
 unfoldable pub overlaps : ℕ → ℕ → Bool
 overlaps u v =
-    not (eqb u v)
-    && ltb (max (getD offsets u 0) (getD offsets v 0))
+    not (eqb u v) && ltb (max (getD offsets u 0) (getD offsets v 0))
     (min (getD offsets u 0 + getD lengths u 0) (getD offsets v 0 + getD lengths v 0))
 
 -- What a computation of plan 12 opens: naming it on an `unfolding` line opens all that its own line names.
@@ -38,23 +37,12 @@ definitions = tt
 -- A line of the paper's listing after its position: parent, component, depth, rank, rank of the last.
 unfoldable pub row : (ℕ → ℕ → Bool) → ℕ → List ℕ
 row overlap v =
-    parent overlap v
-    ∷ component overlap v
-    ∷ depth overlap v
-    ∷ rank 7 overlap v
-    ∷ lastRank 7 overlap v
-    ∷ []
+    parent overlap v ∷ component overlap v ∷ depth overlap v ∷ rank 7 overlap v ∷ lastRank 7 overlap v ∷ []
 
 unfoldable pub listing : List (List ℕ)
 listing =
-    (0 ∷ 0 ∷ 0 ∷ 5 ∷ 4 ∷ [])
-    ∷ (0 ∷ 0 ∷ 1 ∷ 0 ∷ 3 ∷ [])
-    ∷ (0 ∷ 0 ∷ 1 ∷ 3 ∷ 2 ∷ [])
-    ∷ (0 ∷ 0 ∷ 1 ∷ 4 ∷ 4 ∷ [])
-    ∷ (2 ∷ 0 ∷ 2 ∷ 2 ∷ 1 ∷ [])
-    ∷ (4 ∷ 0 ∷ 3 ∷ 1 ∷ 1 ∷ [])
-    ∷ (6 ∷ 1 ∷ 0 ∷ 0 ∷ 0 ∷ [])
-    ∷ []
+    (0 ∷ 0 ∷ 0 ∷ 5 ∷ 4 ∷ []) ∷ (0 ∷ 0 ∷ 1 ∷ 0 ∷ 3 ∷ []) ∷ (0 ∷ 0 ∷ 1 ∷ 3 ∷ 2 ∷ []) ∷ (0 ∷ 0 ∷ 1 ∷ 4 ∷ 4 ∷ []) ∷ (2 ∷ 0 ∷ 2 ∷ 2 ∷ 1 ∷ [])
+    ∷ (4 ∷ 0 ∷ 3 ∷ 1 ∷ 1 ∷ []) ∷ (6 ∷ 1 ∷ 0 ∷ 0 ∷ 0 ∷ []) ∷ []
 
 pub plan-12-tables : table (row overlaps) 7 ≡ listing
 unfolding definitions row listing
@@ -70,8 +58,7 @@ answers = answer 0 5 ∷ answer 1 5 ∷ answer 3 5 ∷ answer 2 3 ∷ answer 1 3
 unfoldable pub answers-reversed : List Outcome
 answers-reversed = answer 5 0 ∷ answer 5 1 ∷ answer 5 3 ∷ answer 3 2 ∷ answer 3 1 ∷ answer 4 3 ∷ answer 5 4 ∷ answer 6 5 ∷ answer 6 6 ∷ []
 
-pub plan-12-answers : answers
-    ≡ apart 3 ∷ apart 3 ∷ apart 3 ∷ apart 1 ∷ apart 2 ∷ apart 2 ∷ apart 1 ∷ no-chain ∷ apart 0 ∷ []
+pub plan-12-answers : answers ≡ apart 3 ∷ apart 3 ∷ apart 3 ∷ apart 1 ∷ apart 2 ∷ apart 2 ∷ apart 1 ∷ no-chain ∷ apart 0 ∷ []
 unfolding definitions answer answers
 plan-12-answers = refl
 
@@ -91,11 +78,8 @@ unfolding definitions Forest.size Forest.earlierSiblings Forest.startTo Forest.s
 plan-12-starts = refl
 
 -- The paper's chains join their windows with as many handovers as the answers say.
-pub plan-12-chains : joins 7 overlaps 0 5 (5 ∷ 4 ∷ 2 ∷ 0 ∷ [])
-    && (joins 7 overlaps 3 5 (5 ∷ 4 ∷ 2 ∷ 3 ∷ [])
-    && (joins 7 overlaps 1 3 (3 ∷ 0 ∷ 1 ∷ [])
-    && joins 7 overlaps 6 6 (6 ∷ [])))
-    ≡ true
+pub plan-12-chains : joins 7 overlaps 0 5 (5 ∷ 4 ∷ 2 ∷ 0 ∷ []) && (joins 7 overlaps 3 5 (5 ∷ 4 ∷ 2 ∷ 3 ∷ [])
+    && (joins 7 overlaps 1 3 (3 ∷ 0 ∷ 1 ∷ []) && joins 7 overlaps 6 6 (6 ∷ []))) ≡ true
 unfolding definitions
 plan-12-chains = refl
 

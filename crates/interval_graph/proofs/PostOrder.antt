@@ -58,8 +58,7 @@ module _ (n : ℕ) {parent : ℕ → ℕ} (forest : Forest parent) where
 
   -- A child is one deeper.
   pub child-depth : (v c : ℕ) → Child n parent v c → depth parent c ≡ suc (depth parent v)
-  child-depth v c h =
-      depth-step forest c (omega (arith, h .parent-is, h .behind)) ∙ ap (λ x. suc (depth parent x)) (h .parent-is)
+  child-depth v c h = depth-step forest c (omega (arith, h .parent-is, h .behind)) ∙ ap (λ x. suc (depth parent x)) (h .parent-is)
 
   -- What holds of a window once it holds of its children holds of every window.
   pub by-children : (P : ℕ → Type 0) → ((v : ℕ) → v < n → ((c : ℕ) → Child n parent v c → P c) → P v) → (v : ℕ) → v < n → P v
@@ -75,8 +74,7 @@ module _ (n : ℕ) {parent : ℕ → ℕ} (forest : Forest parent) where
   levels-enough zero g v h a b = absurd (omega arith)
   levels-enough (suc f) zero v h a b = absurd (omega arith)
   levels-enough (suc f) (suc g) v h a b =
-      ap (λ (l : List ℕ). l ++ (v ∷ []))
-      (flatMap-cong (postOrderTo n parent f) (postOrderTo n parent g) (children n parent v)
+      ap (λ (l : List ℕ). l ++ (v ∷ [])) (flatMap-cong (postOrderTo n parent f) (postOrderTo n parent g) (children n parent v)
       (λ c m. let k = children-sound v c m in
       levels-enough f g c (k .window) (omega (arith, k .behind)) (omega (arith, k .behind))))
 
@@ -84,8 +82,7 @@ module _ (n : ℕ) {parent : ℕ → ℕ} (forest : Forest parent) where
   unfolding postOrder postOrderTo
   levels-children zero v h b = absurd (omega arith)
   levels-children (suc f) v h b =
-      ap (λ (l : List ℕ). l ++ (v ∷ []))
-      (flatMap-cong (postOrderTo n parent f) (postOrder n parent) (children n parent v)
+      ap (λ (l : List ℕ). l ++ (v ∷ [])) (flatMap-cong (postOrderTo n parent f) (postOrder n parent) (children n parent v)
       (λ c m. let k = children-sound v c m in
       levels-enough f n c (k .window) (omega (arith, k .behind)) (omega arith)))
 
@@ -124,29 +121,24 @@ module _ (n : ℕ) {parent : ℕ → ℕ} (forest : Forest parent) where
     where
       step : (v : ℕ) → v < n → ((c : ℕ) → Child n parent v c → List·Memᴰ x (postOrder n parent c) → Under n parent c x) → List·Memᴰ x (postOrder n parent v) → Under n parent v x
       step v h below m =
-          ⊎-elim
-          (λ g. let r = flatMap-sound (postOrder n parent) (children n parent v) x g in
+          ⊎-elim (λ g. let r = flatMap-sound (postOrder n parent) (children n parent v) x g in
           let k = children-sound v (r .0) (r .1) in
-          under-child v (r .0) x k (below (r .0) k (r .2)))
-          (λ g. let e : x ≡ v = List·Memᴰ·eq-of-singleton g in rw e (under-self v h))
+          under-child v (r .0) x k (below (r .0) k (r .2))) (λ g. let e : x ≡ v = List·Memᴰ·eq-of-singleton g in rw e (under-self v h))
           (List·Memᴰ·append-cases (flatMap (postOrder n parent) (children n parent v)) (rw (postOrder-children v h) at m))
 
   -- And all of it: whatever has v among its ancestors.
   pub postOrder-complete : (k x v : ℕ) → x < n → ancestor parent k x ≡ v → List·Memᴰ x (postOrder n parent v)
   postOrder-complete zero x v h e =
       let s : x ≡ v = sym (ancestor-zero forest x) ∙ e in
-      rw (postOrder-children v (omega arith))
-      (Memᴰ·append-right (flatMap (postOrder n parent) (children n parent v)) (List·Memᴰ·head s))
+      rw (postOrder-children v (omega arith)) (Memᴰ·append-right (flatMap (postOrder n parent) (children n parent v)) (List·Memᴰ·head s))
   postOrder-complete (suc k) x v h e =
       let c = ancestor parent k x in
       let below : List·Memᴰ x (postOrder n parent c) = postOrder-complete k x c h refl in
       let p : parent c ≡ v = sym (ancestor-suc forest k x) ∙ e in
       let b : c < n = omega (arith, ancestor-le forest k x) in
-      ⊎-elim
-      (λ g. rw (postOrder-children v (omega arith))
+      ⊎-elim (λ g. rw (postOrder-children v (omega arith))
       (Memᴰ·append-left (v ∷ []) (flatMap-complete (postOrder n parent) (children n parent v) c x (children-complete v c (record { behind = omega arith; window = b; parent-is = p })) below)))
-      (λ g. let s : v ≡ c = omega (arith, forest .parent-le c) in rw s below)
-      (lt-or-ge (parent c) c)
+      (λ g. let s : v ≡ c = omega (arith, forest .parent-le c) in rw s below) (lt-or-ge (parent c) c)
 
   -- Of a root, the list holds the windows of its component, and those only.
   pub component-list : (r x : ℕ) → r < n → parent r ≡ r → List·Memᴰ x (postOrder n parent r) ↔ ((x < n) × (component parent x ≡ component parent r))

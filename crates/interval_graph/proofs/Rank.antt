@@ -38,8 +38,7 @@ module _ (n : ℕ) {parent : ℕ → ℕ} (forest : Forest parent) where
 
   -- The list of a window holds each of its windows once: the entry at i has index i.
   pub postOrder-once : (v i : ℕ) → v < n → i < length (postOrder n parent v) → indexOf (getD (postOrder n parent v) i 0) (postOrder n parent v) ≡ i
-  postOrder-once v i h b =
-      pairwise-once (λ x y. x ≡ y → ⊥) (λ x d. d refl) (postOrder n parent v) i (postOrder-distinct v h) b
+  postOrder-once v i h b = pairwise-once (λ x y. x ≡ y → ⊥) (λ x d. d refl) (postOrder n parent v) i (postOrder-distinct v h) b
 
   -- No list is longer than there are windows.
   pub size-le : (v : ℕ) → v < n → size n parent v ≤ n
@@ -50,8 +49,7 @@ module _ (n : ℕ) {parent : ℕ → ℕ} (forest : Forest parent) where
 
   -- A window is in the list of its root.
   pub rank-member : (x : ℕ) → x < n → List·Memᴰ x (postOrder n parent (root parent x))
-  rank-member x h =
-      postOrder-complete n forest (depth parent x) x (root parent x) h (ancestor-past forest x (depth parent x) (omega arith))
+  rank-member x h = postOrder-complete n forest (depth parent x) x (root parent x) h (ancestor-past forest x (depth parent x) (omega arith))
 
   -- The rank of a window is an index in the list of its root.
   pub rank-below : (x : ℕ) → x < n → rank n parent x < length (postOrder n parent (root parent x))
@@ -65,8 +63,7 @@ module _ (n : ℕ) {parent : ℕ → ℕ} (forest : Forest parent) where
 
   -- In one component different windows have different ranks.
   pub rank-injective : (x y : ℕ) → x < n → y < n → root parent x ≡ root parent y → rank n parent x ≡ rank n parent y → x ≡ y
-  rank-injective x y h g e s =
-      sym (rank-entry x h) ∙ ((rw (e, s) refl) ∙ rank-entry y g)
+  rank-injective x y h g e s = sym (rank-entry x h) ∙ ((rw (e, s) refl) ∙ rank-entry y g)
 
   -- A rank is below the number of windows.
   pub rank-lt : (v : ℕ) → v < n → rank n parent v < n

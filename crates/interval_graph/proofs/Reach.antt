@@ -51,6 +51,5 @@ module _ {n : ℕ} {overlaps : ℕ → ℕ → Bool} (ok : IntervalOrder n overl
   pub reach-bound : (v a b k : ℕ) → v < n → a < n → b < n → component overlaps a ≡ component overlaps v → component overlaps b ≡ component overlaps v → LeastHandovers n overlaps a b k → k ≤ reach n overlaps v
   reach-bound v a b k h g l p q c =
       let e : root overlaps a ≡ root overlaps b = component-root (tree overlaps) a b (p ∙ sym q) in
-      least-le ok a b k (reach n overlaps v) g l c
-      (λ s. omega (arith, climb-le-depth ok a b e, depth-lt-reach v b h l q))
+      least-le ok a b k (reach n overlaps v) g l c (λ s. omega (arith, climb-le-depth ok a b e, depth-lt-reach v b h l q))
       (λ s. omega (arith, climb-le-depth ok b a (sym e), depth-lt-reach v a h g p))

@@ -41,8 +41,7 @@ equal-rank x y t =
     let r = eqb (x .rank) (y .rank) && eqb (x .last) (y .last) in
     let d = eqb (x .depth) (y .depth) && r in
     let c = eqb (x .component) (y .component) && d in
-    eqb-true (x .rank) (y .rank)
-    (and-left (eqb (x .rank) (y .rank)) (eqb (x .last) (y .last))
+    eqb-true (x .rank) (y .rank) (and-left (eqb (x .rank) (y .rank)) (eqb (x .last) (y .last))
     (and-right (eqb (x .depth) (y .depth)) r (and-right (eqb (x .component) (y .component)) d (and-right (eqb (x .plan) (y .plan)) c t))))
 
 -- Numbers are equal to themselves.
@@ -73,8 +72,7 @@ module _ {n : ℕ} {overlaps : ℕ → ℕ → Bool} (ok : IntervalOrder n overl
       let z = last n overlaps u in
       let less = rank-lt-iff ok u v D (omega (arith, r .order, r .window)) (r .window) (r .one-root) (r .levels) in
       let counted : ℕ → Type 0 = λ k. k ≡ suc (climb n overlaps u v) in
-      rw e
-      (cond-cases counted (ltb (rank n overlaps u) (rank n overlaps v))
+      rw e (cond-cases counted (ltb (rank n overlaps u) (rank n overlaps v))
       (λ t. let b : u < w = less .0 (ltb-true (rank n overlaps u) (rank n overlaps v) t) in
       cond-cases counted (leb (rank n overlaps v) (rank n overlaps z) || ltb (rank n overlaps z) (rank n overlaps u))
       (λ s. omega (arith, climb-at-level ok u v D r b (leb-true w z (sym (ranks-at-level ok u v D r) ∙ s))))
@@ -97,8 +95,7 @@ module _ {n : ℕ} {overlaps : ℕ → ℕ → Bool} (ok : IntervalOrder n overl
       let b = ltb (rank n overlaps u) (rank n overlaps v) in
       ⊎-elim (λ l. or-left s (a && b) (lt-ltb (depth overlaps u) (depth overlaps v) l))
       (λ l. let d : depth overlaps u ≡ depth overlaps v = omega (arith, depth-monotone ok u v (omega arith) g e) in
-      or-right s (a && b)
-      (and-intro a b (eq-eqb (depth overlaps u) (depth overlaps v) d)
+      or-right s (a && b) (and-intro a b (eq-eqb (depth overlaps u) (depth overlaps v) d)
       (lt-ltb (rank n overlaps u) (rank n overlaps v) (rank-lt-iff ok u v 0 (omega arith) g e (omega arith) .1 (omega (arith, ancestor-zero (tree overlaps) v))))))
       (lt-or-ge (depth overlaps u) (depth overlaps v))
 
@@ -113,8 +110,7 @@ module _ {n : ℕ} {overlaps : ℕ → ℕ → Bool} (ok : IntervalOrder n overl
       or-false-right s (a && b) second ∙ le-ltb (depth overlaps v) (depth overlaps u) (depth-monotone ok u v (omega arith) g e)
     where
       refuted : depth overlaps v ≡ depth overlaps u → rank n overlaps v < rank n overlaps u → ⊥
-      refuted d l =
-          omega (arith, rank-lt-iff ok v u 0 g (omega arith) (sym e) (omega arith) .0 l, ancestor-zero (tree overlaps) u)
+      refuted d l = omega (arith, rank-lt-iff ok v u 0 g (omega arith) (sym e) (omega arith) .0 l, ancestor-zero (tree overlaps) u)
 
   -- Two windows with equal component and equal rank are one window.
   pub same-window : (a b : ℕ) → a < n → b < n → component overlaps a ≡ component overlaps b → rank n overlaps a ≡ rank n overlaps b → a ≡ b
@@ -152,16 +148,12 @@ module _ {n : ℕ} {overlaps : ℕ → ℕ → Bool} (ok : IntervalOrder n overl
   -- For windows of one component the outcome is the count of the chain between them.
   pub outcome-chain : (a b p : ℕ) → a < n → b < n → root overlaps a ≡ root overlaps b → outcome (numbersOf n overlaps p a) (numbersOf n overlaps p b) ≡ apart (handovers (chainOf n overlaps a b))
   outcome-chain a b p g l e =
-      ⊎-elim
-      (λ h. outcome-two a b p g l (λ s. omega arith) e
-      ∙ rw (first-earlier a b p p h l e) (ap apart (between-climb a b p p h l e ∙ sym (chain-handovers a b h l e))))
-      (λ h. ⊎-elim
-      (λ m. outcome-two a b p g l (λ s. omega arith) e
-      ∙ rw (first-not-later b a p p m g (sym e))
+      ⊎-elim (λ h. outcome-two a b p g l (λ s. omega arith) e
+      ∙ rw (first-earlier a b p p h l e) (ap apart (between-climb a b p p h l e ∙ sym (chain-handovers a b h l e)))) (λ h. ⊎-elim
+      (λ m. outcome-two a b p g l (λ s. omega arith) e ∙ rw (first-not-later b a p p m g (sym e))
       (ap apart (between-climb b a p p m g (sym e) ∙ (sym (chain-handovers b a m g (sym e)) ∙ ap handovers (chain-symmetric n overlaps b a)))))
       (λ m. let s : a ≡ b = omega arith in
-      rw s (outcome-self b p ∙ ap apart (sym (ap handovers (chain-same n overlaps b b refl) ∙ handovers-alone b))))
-      (lt-or-ge b a))
+      rw s (outcome-self b p ∙ ap apart (sym (ap handovers (chain-same n overlaps b b refl) ∙ handovers-alone b)))) (lt-or-ge b a))
       (lt-or-ge a b)
 
   -- For windows of two components it is no chain.
@@ -175,11 +167,9 @@ module _ {n : ℕ} {overlaps : ℕ → ℕ → Bool} (ok : IntervalOrder n overl
   -- The outcome is the same in either order of naming.
   pub outcome-symmetric : (a b p : ℕ) → a < n → b < n → outcome (numbersOf n overlaps p a) (numbersOf n overlaps p b) ≡ outcome (numbersOf n overlaps p b) (numbersOf n overlaps p a)
   outcome-symmetric a b p g l =
-      ⊎-elim
-      (λ e. outcome-chain a b p g l e
+      ⊎-elim (λ e. outcome-chain a b p g l e
       ∙ (ap (λ c. apart (handovers c)) (chain-symmetric n overlaps a b) ∙ sym (outcome-chain b a p l g (sym e))))
-      (λ d. outcome-none a b p g l d ∙ sym (outcome-none b a p l g (λ e. d (sym e))))
-      (equal-or-not (root overlaps a) (root overlaps b))
+      (λ d. outcome-none a b p g l d ∙ sym (outcome-none b a p l g (λ e. d (sym e)))) (equal-or-not (root overlaps a) (root overlaps b))
 
   -- The outcome is a count exactly if that is the least number of handovers.
   pub outcome-apart : (a b p k : ℕ) → a < n → b < n → (outcome (numbersOf n overlaps p a) (numbersOf n overlaps p b) ≡ apart k) ↔ LeastHandovers n overlaps a b k
@@ -187,8 +177,7 @@ module _ {n : ℕ} {overlaps : ℕ → ℕ → Bool} (ok : IntervalOrder n overl
     where
       to : outcome (numbersOf n overlaps p a) (numbersOf n overlaps p b) ≡ apart k → LeastHandovers n overlaps a b k
       to o =
-          ⊎-elim
-          (λ e. let s : handovers (chainOf n overlaps a b) ≡ k = cc (outcome-chain a b p g l e) in
+          ⊎-elim (λ e. let s : handovers (chainOf n overlaps a b) ≡ k = cc (outcome-chain a b p g l e) in
           rw s at (chain-least ok a b g l (root-joined ok a b g l e)))
           (λ d. let z : _≡_ {A = ℕ} 0 1 = cc (outcome-none a b p g l d) in absurd (omega arith))
           (equal-or-not (root overlaps a) (root overlaps b))

@@ -50,25 +50,21 @@ module _ {n : ℕ} {first second : ℕ → ℕ → Bool} (ok : IntervalOrder n f
   lasts-later : ((k : ℕ) → k < n → last n first k ≡ last n second k) → (u v : ℕ) → u < v → v < n → first u v ≡ second u v
   lasts-later same u v h g =
       let e : last n first u ≡ last n second u = same u (omega arith) in
-      iff-equal (first u v) (second u v)
-      (λ t. last-overlap ok′ u v h (omega (arith, overlap-last ok u v h g t)))
+      iff-equal (first u v) (second u v) (λ t. last-overlap ok′ u v h (omega (arith, overlap-last ok u v h g t)))
       (λ t. last-overlap ok u v h (omega (arith, overlap-last ok′ u v h g t)))
 
   -- Equal lasts are the same overlaps.
   pub lasts-overlaps : ((k : ℕ) → k < n → last n first k ≡ last n second k) → SameOverlaps n first second
   lasts-overlaps same u v h g =
-      ⊎-elim (λ l. lasts-later same u v l g)
-      (λ l. ⊎-elim (λ m. ok .symmetric u v ∙ (lasts-later same v u m h ∙ ok′ .symmetric v u))
-      (λ m. let e : u ≡ v = omega arith in rw e (ok .irreflexive v ∙ sym (ok′ .irreflexive v))) (lt-or-ge v u))
-      (lt-or-ge u v)
+      ⊎-elim (λ l. lasts-later same u v l g) (λ l. ⊎-elim (λ m. ok .symmetric u v ∙ (lasts-later same v u m h ∙ ok′ .symmetric v u))
+      (λ m. let e : u ≡ v = omega arith in rw e (ok .irreflexive v ∙ sym (ok′ .irreflexive v))) (lt-or-ge v u)) (lt-or-ge u v)
 
 -- An overlap is a least number 1.
 module _ {n : ℕ} {overlaps : ℕ → ℕ → Bool} (ok : IntervalOrder n overlaps) where
   leads-some : (a b : ℕ) (l : List ℕ) → leads n overlaps a b l ≡ true → (a ≡ b → ⊥) → 1 ≤ handovers l
   unfolding firstEntry lastEntry handovers
   leads-some a b [] t d = absurd (chain-not-empty n overlaps (leads-chain n overlaps a b [] t))
-  leads-some a b (x ∷ []) t d =
-      absurd (d (sym (leads-first n overlaps a b (x ∷ []) t) ∙ leads-last n overlaps a b (x ∷ []) t))
+  leads-some a b (x ∷ []) t d = absurd (d (sym (leads-first n overlaps a b (x ∷ []) t) ∙ leads-last n overlaps a b (x ∷ []) t))
   leads-some a b (x ∷ (y ∷ l)) t d = omega arith
 
   leads-one : (a b : ℕ) (l : List ℕ) → leads n overlaps a b l ≡ true → handovers l ≡ 1 → overlaps a b ≡ true

@@ -48,15 +48,13 @@ module _ (n : ℕ) (overlaps : ℕ → ℕ → Bool) where
   -- In either order of naming it is one chain.
   pub chain-symmetric : (a b : ℕ) → chainOf n overlaps a b ≡ chainOf n overlaps b a
   chain-symmetric a b =
-      ⊎-elim (λ e. chain-same a b e ∙ (ap (λ x. x ∷ []) e ∙ sym (chain-same b a (sym e))))
-      (λ d. different d) (equal-or-not a b)
+      ⊎-elim (λ e. chain-same a b e ∙ (ap (λ x. x ∷ []) e ∙ sym (chain-same b a (sym e)))) (λ d. different d) (equal-or-not a b)
     where
       different : (a ≡ b → ⊥) → chainOf n overlaps a b ≡ chainOf n overlaps b a
       different d =
           let p : min a b ≡ min b a = omega arith in
           let q : max a b ≡ max b a = omega arith in
-          ⊎-elim
-          (λ h. chain-none a b d h ∙ sym (chain-none b a (λ e. d (sym e)) (rw (← p, ← q) h)))
+          ⊎-elim (λ h. chain-none a b d h ∙ sym (chain-none b a (λ e. d (sym e)) (rw (← p, ← q) h)))
           (λ h. chain-walk a b d h ∙ (rw (p, q) (sym (chain-walk b a (λ e. d (sym e)) (rw (← p, ← q) h)))))
           (lt-or-ge (max a b) (climb n overlaps (min a b) (max a b)))
 
@@ -68,14 +66,11 @@ later-same a b l e = let t : eqb (firstEntry l) (max a b) ≡ true = eq-eqb (fir
 -- What leads from the later to the earlier joins the two.
 joins-of-later : (n : ℕ) (overlaps : ℕ → ℕ → Bool) (a b : ℕ) (l : List ℕ) → leads n overlaps (max a b) (min a b) l ≡ true → joins n overlaps a b l ≡ true
 joins-of-later n overlaps a b l t =
-    ⊎-elim
-    (λ h. let p : max a b ≡ b = omega arith in
+    ⊎-elim (λ h. let p : max a b ≡ b = omega arith in
     let q : min a b ≡ a = omega arith in
-    joins-swap n overlaps b a l (leads-joins n overlaps b a l (rw (p, q) at t)))
-    (λ h. let p : max a b ≡ a = omega arith in
+    joins-swap n overlaps b a l (leads-joins n overlaps b a l (rw (p, q) at t))) (λ h. let p : max a b ≡ a = omega arith in
     let q : min a b ≡ b = omega arith in
-    leads-joins n overlaps a b l (rw (p, q) at t))
-    (lt-or-ge a b)
+    leads-joins n overlaps a b l (rw (p, q) at t)) (lt-or-ge a b)
 
 module _ {n : ℕ} {overlaps : ℕ → ℕ → Bool} (ok : IntervalOrder n overlaps) where
   -- Windows that a chain leads from and to have one root.
@@ -88,38 +83,31 @@ module _ {n : ℕ} {overlaps : ℕ → ℕ → Bool} (ok : IntervalOrder n overl
 
   -- Windows that some chain joins have one root.
   pub joined-root : (a b : ℕ) → Joined n overlaps a b → root overlaps a ≡ root overlaps b
-  joined-root a b j =
-      ⊎-elim (λ t. leads-root a b (j .0) t) (λ t. sym (leads-root b a (j .0) t)) (joins-cases n overlaps a b (j .0) (j .1))
+  joined-root a b j = ⊎-elim (λ t. leads-root a b (j .0) t) (λ t. sym (leads-root b a (j .0) t)) (joins-cases n overlaps a b (j .0) (j .1))
 
   root-ends : (a b : ℕ) → root overlaps a ≡ root overlaps b → root overlaps (min a b) ≡ root overlaps (max a b)
   root-ends a b e =
-      ⊎-elim
-      (λ h. let p : max a b ≡ b = omega arith in
+      ⊎-elim (λ h. let p : max a b ≡ b = omega arith in
       let q : min a b ≡ a = omega arith in
-      rw (p, q) e)
-      (λ h. let p : max a b ≡ a = omega arith in
+      rw (p, q) e) (λ h. let p : max a b ≡ a = omega arith in
       let q : min a b ≡ b = omega arith in
-      rw (p, q) (sym e))
-      (lt-or-ge a b)
+      rw (p, q) (sym e)) (lt-or-ge a b)
 
   -- In one component the chain is the best from the later window to the earlier.
   pub chain-best : (a b : ℕ) → a < n → b < n → root overlaps a ≡ root overlaps b → Best n overlaps (max a b) (min a b) (chainOf n overlaps a b)
   chain-best a b g l e =
-      ⊎-elim
-      (λ s. let p : max a b ≡ a = omega arith in
+      ⊎-elim (λ s. let p : max a b ≡ a = omega arith in
       let q : min a b ≡ a = omega arith in
       rw (chain-same n overlaps a b s, p, q) (alone-best ok a g))
       (λ d. let r : climb n overlaps (min a b) (max a b) ≤ max a b = climb-le-position ok (min a b) (max a b) (root-ends a b e) in
-      rw (chain-walk n overlaps a b d r) (walk-best ok (min a b) (max a b) (apart a b d) (omega arith) r))
-      (equal-or-not a b)
+      rw (chain-walk n overlaps a b d r) (walk-best ok (min a b) (max a b) (apart a b d) (omega arith) r)) (equal-or-not a b)
     where
       apart : (a b : ℕ) → (a ≡ b → ⊥) → min a b < max a b
       apart a b d = ⊎-elim (λ h. h) (λ h. absurd (d (omega arith))) (lt-or-ge (min a b) (max a b))
 
   -- Windows of one root are joined by the chain between them.
   pub root-joined : (a b : ℕ) → a < n → b < n → root overlaps a ≡ root overlaps b → Joined n overlaps a b
-  root-joined a b g l e =
-      (chainOf n overlaps a b, joins-of-later n overlaps a b (chainOf n overlaps a b) (chain-best a b g l e .leading))
+  root-joined a b g l e = (chainOf n overlaps a b, joins-of-later n overlaps a b (chainOf n overlaps a b) (chain-best a b g l e .leading))
 
   -- Some chain joins two windows exactly if they have one root.
   pub joined-iff-root : (a b : ℕ) → a < n → b < n → Joined n overlaps a b ↔ (root overlaps a ≡ root overlaps b)
@@ -148,8 +136,7 @@ module _ {n : ℕ} {overlaps : ℕ → ℕ → Bool} (ok : IntervalOrder n overl
 
   -- Its handovers are the least number.
   pub chain-least : (a b : ℕ) → a < n → b < n → Joined n overlaps a b → LeastHandovers n overlaps a b (handovers (chainOf n overlaps a b))
-  chain-least a b g l j =
-      shortest-least n overlaps a b (chainOf n overlaps a b) (chain-earliest-shortest a b g l j .shortest)
+  chain-least a b g l j = shortest-least n overlaps a b (chainOf n overlaps a b) (chain-earliest-shortest a b g l j .shortest)
 
   -- No chain has fewer.
   pub chain-none-shorter : (a b : ℕ) → a < n → b < n → (m : List ℕ) → joins n overlaps a b m ≡ true → handovers (chainOf n overlaps a b) ≤ handovers m
@@ -172,8 +159,7 @@ module _ {n : ℕ} {overlaps : ℕ → ℕ → Bool} (ok : IntervalOrder n overl
 
   -- If it is empty, no chain joins the two.
   pub chain-empty-apart : (a b : ℕ) → a < n → b < n → chainOf n overlaps a b ≡ [] → Joined n overlaps a b → ⊥
-  chain-empty-apart a b g l e j =
-      joins-not-empty n overlaps a b (rw e at (chain-earliest-shortest a b g l j .shortest .joining))
+  chain-empty-apart a b g l e j = joins-not-empty n overlaps a b (rw e at (chain-earliest-shortest a b g l j .shortest .joining))
 
   -- If no chain joins the two, it is empty.
   pub apart-chain-empty : (a b : ℕ) → a < n → b < n → (Joined n overlaps a b → ⊥) → chainOf n overlaps a b ≡ []
@@ -183,8 +169,7 @@ module _ {n : ℕ} {overlaps : ℕ → ℕ → Bool} (ok : IntervalOrder n overl
       let differ : a ≡ b → ⊥ = λ e. d (root-joined a b g l (ap (root overlaps) e)) in
       ⊎-elim (λ h. chain-none n overlaps a b differ h)
       (λ h. absurd (⊎-elim (λ s. d (walk n overlaps u v, joins-of-later n overlaps a b (walk n overlaps u v) (walk-leads ok u v s (omega arith) h)))
-      (λ s. differ (omega arith)) (lt-or-ge u v)))
-      (lt-or-ge v (climb n overlaps u v))
+      (λ s. differ (omega arith)) (lt-or-ge u v))) (lt-or-ge v (climb n overlaps u v))
 
   -- It is empty exactly if no chain joins the two.
   pub chain-empty-iff-apart : (a b : ℕ) → a < n → b < n → (chainOf n overlaps a b ≡ []) ↔ (Joined n overlaps a b → ⊥)

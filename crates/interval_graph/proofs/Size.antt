@@ -75,9 +75,7 @@ module _ (n : ℕ) {parent : ℕ → ℕ} (forest : Forest parent) where
       let from : 0 + c ≡ c = omega arith in
       let passes : p c ≡ true = and-intro (ltb v c) (eqb (parent c) v) (lt-ltb v c (k .behind)) (eq-eqb (parent c) v (k .parent-is)) in (
         passing p (suc c) r,
-        ap (passing p 0) whole
-            ∙ (passing-add p 0 c (suc r)
-            ∙ (ap (λ (z : ℕ). passing p 0 c ++ passing p z (suc r)) from
+        ap (passing p 0) whole ∙ (passing-add p 0 c (suc r) ∙ (ap (λ (z : ℕ). passing p 0 c ++ passing p z (suc r)) from
             ∙ (ap (λ (l : List ℕ). passing p 0 c ++ l) (passing-true p c r passes)
             ∙ ap (λ (l : List ℕ). l ++ (c ∷ passing p (suc c) r)) (sym (earlier-children v c k))))),
       )

@@ -84,8 +84,7 @@ module _ {n : ℕ} {overlaps : ℕ → ℕ → Bool} (ok : IntervalOrder n overl
       let covers : x ≤ last n overlaps y = rw up (parent-last ok x (ancestor-below (tree overlaps) j v g)) in
       ⊎-elim (λ l. ok .symmetric y u ∙ last-overlap ok u y l reached)
       (λ l. ⊎-elim (λ m. last-overlap ok y u m (omega (arith, last-ge ok u)))
-      (λ m. let s : y ≡ u = omega arith in absurd (omega (arith, ap (last n overlaps) s))) (lt-or-ge y u))
-      (lt-or-ge u y)
+      (λ m. let s : y ≡ u = omega arith in absurd (omega (arith, ap (last n overlaps) s))) (lt-or-ge y u)) (lt-or-ge u y)
 
   -- The walk leads from v to u.
   pub walk-leads : (u v : ℕ) → u < v → v < n → climb n overlaps u v ≤ v → leads n overlaps v u (walk n overlaps u v) ≡ true
@@ -93,8 +92,7 @@ module _ {n : ℕ} {overlaps : ℕ → ℕ → Bool} (ok : IntervalOrder n overl
   walk-leads u v h g r =
       let f : ℕ → ℕ = λ i. ancestor overlaps i v in
       let k = climb n overlaps u v in
-      leads-intro n overlaps v u (walk n overlaps u v)
-      (chain-snoc n overlaps (table f (suc k)) u
+      leads-intro n overlaps v u (walk n overlaps u v) (chain-snoc n overlaps (table f (suc k)) u
       (chain-table n overlaps f k (λ i b. ancestor-below (tree overlaps) i v g) (λ i b. walk-step u v i r b))
       (ap (λ z. overlaps z u) (last-table f k) ∙ walk-end u v k h g refl r) (omega arith))
       (walk-first n overlaps u v) (walk-last n overlaps u v)
@@ -103,8 +101,7 @@ module _ {n : ℕ} {overlaps : ℕ → ℕ → Bool} (ok : IntervalOrder n overl
   pub climb-lt-handovers : (u v : ℕ) (m : List ℕ) → u < v → leads n overlaps v u m ≡ true → climb n overlaps u v < handovers m
   unfolding firstEntry lastEntry handovers
   climb-lt-handovers u v [] h t = absurd (chain-not-empty n overlaps (leads-chain n overlaps v u [] t))
-  climb-lt-handovers u v (x ∷ []) h t =
-      absurd (omega (arith, leads-first n overlaps v u (x ∷ []) t, leads-last n overlaps v u (x ∷ []) t))
+  climb-lt-handovers u v (x ∷ []) h t = absurd (omega (arith, leads-first n overlaps v u (x ∷ []) t, leads-last n overlaps v u (x ∷ []) t))
   climb-lt-handovers u v (x ∷ (y ∷ l)) h t =
       omega (arith, climb-le n overlaps u v (length l) (chain-climbs ok l x y v u (leads-chain n overlaps v u (x ∷ (y ∷ l)) t) (leads-last n overlaps v u (x ∷ (y ∷ l)) t) (omega (arith, leads-first n overlaps v u (x ∷ (y ∷ l)) t))))
 

@@ -1,10 +1,8 @@
 -- Paper 01's plan 12, from its bytes: parents and lasts come out of the definitions by computation, a table that just holds them is
 -- filled, and one that does not is refused and stays as it was.
 -- Assumes nothing.
-use Prim.Native.Nat.{ℕ}
 use mathlib.Core.Path.{_≡_, refl}
-use mathlib.Core.List.{List, [], _∷_, _++_}
-use lib.ListN.{length, drop}
+use mathlib.Core.List.{[], _∷_}
 use Rattle.sequences.specs.Table.{table, overwritten}
 use Rattle.wire.specs.Question.{refusalBy, roomQuestion}
 use Rattle.plan.proofs.Plan12.{file, meaning}

@@ -57,15 +57,13 @@ module _ {file : List ℕ} {windows : ℕ} (plan : AcceptedWindows file windows)
     behind-turn : Behind file windows r v
     behind-turn u w h uw vw wn =
         ⊎-elim (λ g. behind u w g uw vw wn)
-        (λ g. bounded-before u w uw wn (omega (arith, found .before u g h, offsets-do-not-fall v w vw wn)))
-        (lt-or-ge u finger)
+        (λ g. bounded-before u w uw wn (omega (arith, found .before u g h, offsets-do-not-fall v w vw wn))) (lt-or-ge u finger)
 
     -- What it finds is the parent.
     parent-found : r ≡ parentOf file v
     unfolding parentOf parent
     parent-found =
-        sym
-        (least-unique (λ u. overlaps file u v) v r (found .high) (λ h. bounded-past r v h within (found .past h))
+        sym (least-unique (λ u. overlaps file u v) v r (found .high) (λ h. bounded-past r v h within (found .past h))
         (λ j h. behind-turn j v h (omega (arith, found .high)) (omega arith) within))
 
   pub fingers-turn : (parents₀ parents : List ℕ) (finger v r : ℕ) → windows ≤ length parents₀ → v < windows →
@@ -93,13 +91,9 @@ module _ {file : List ℕ} {windows : ℕ} {offsets : List ℕ} (p : Prepared fi
 
   pub prepared-do-not-fall : Sorted offsets greatestCount
   prepared-do-not-fall i j le within =
-      ⊎-elim
-      (λ h. omega (arith, held i (omega arith), held j h, offsets-do-not-fall (p .plan) i j le h))
-      (λ h. ⊎-elim
+      ⊎-elim (λ h. omega (arith, held i (omega arith), held j h, offsets-do-not-fall (p .plan) i j le h)) (λ h. ⊎-elim
       (λ g. omega (arith, held i g, p .rest j h within, own-bound (p .plan) i g, bounds-fit (p .plan) i g))
-      (λ g. omega (arith, p .rest i g (omega arith), p .rest j h within))
-      (lt-or-ge i windows))
-      (lt-or-ge j windows)
+      (λ g. omega (arith, p .rest i g (omega arith), p .rest j h within)) (lt-or-ge i windows)) (lt-or-ge j windows)
 
   module _ (u r : ℕ) (within : u < windows) (found : LastBefore offsets (boundAt file u) greatestCount r) where
     -- The search finds no window before its own, and none of what the table is filled up with.
@@ -107,13 +101,11 @@ module _ {file : List ℕ} {windows : ℕ} {offsets : List ℕ} (p : Prepared fi
     found-late =
         ⊎-elim
         (λ h. absurd (omega (arith, held u within, own-bound (p .plan) u within, found .past u h (omega (arith, windows-few (p .plan))))))
-        (λ h. h)
-        (lt-or-ge r u)
+        (λ h. h) (lt-or-ge r u)
 
     found-window : r < windows
     found-window =
-        ⊎-elim (λ h. h)
-        (λ h. absurd (omega (arith, found .before (omega arith), p .rest r h (found .high), bounds-fit (p .plan) u within)))
+        ⊎-elim (λ h. h) (λ h. absurd (omega (arith, found .before (omega arith), p .rest r h (found .high), bounds-fit (p .plan) u within)))
         (lt-or-ge r windows)
 
     -- What it finds is the last.
@@ -126,25 +118,16 @@ module _ {file : List ℕ} {windows : ℕ} {offsets : List ℕ} (p : Prepared fi
 
         upper : farthest ≤ r
         upper =
-            ⊎-elim
-            (λ c. ⊎-elim
-            (λ h. absurd (true-false-absurd _ (c .2) (bounded-before (p .plan) u farthest (c .0) (c .1) (omega (
+            ⊎-elim (λ c. ⊎-elim (λ h. absurd (true-false-absurd _ (c .2) (bounded-before (p .plan) u farthest (c .0) (c .1) (omega (
               arith,
-              held farthest
-                  (c .1),
+              held farthest (c .1),
               found .past farthest h (omega (arith, c .1, windows-few (p .plan))),
-            )))))
-            (λ h. h)
-            (lt-or-ge r farthest))
-            (λ e. omega (arith, e, found-late))
-            (last-cases windows (overlaps file) u)
+            ))))) (λ h. h) (lt-or-ge r farthest)) (λ e. omega (arith, e, found-late)) (last-cases windows (overlaps file) u)
 
         lower : r ≤ farthest
         lower =
-            ⊎-elim
-            (λ h. overlap-last (windows-order (p .plan)) u r h found-window (bounded-past (p .plan) u r h found-window (omega
-            (arith, held r found-window, found .before (omega arith)))))
-            (λ h. omega (arith, last-ge (windows-order (p .plan)) u))
+            ⊎-elim (λ h. overlap-last (windows-order (p .plan)) u r h found-window (bounded-past (p .plan) u r h found-window (omega
+            (arith, held r found-window, found .before (omega arith))))) (λ h. omega (arith, last-ge (windows-order (p .plan)) u))
             (lt-or-ge u r)
 
 pub fingers-start : (file : List ℕ) (windows : ℕ) (parents₀ : List ℕ) → Fingers file windows parents₀ parents₀ 0 0

@@ -43,8 +43,7 @@ pub record Bracket (offsets : List ℕ) (bound size low width : ℕ) : Type 0 wh
 
 module _ (offsets : List ℕ) (bound size : ℕ) where
   pub bracket-start : 0 < size → Bracket offsets bound size 0 size
-  bracket-start h =
-      record { some = h; stop = omega arith; before = λ l. absurd (omega arith); past = λ k l r. absurd (omega arith) }
+  bracket-start h = record { some = h; stop = omega arith; before = λ l. absurd (omega arith); past = λ k l r. absurd (omega arith) }
 
   module _ (low width half : ℕ) (sorted : Sorted offsets size) (s : Bracket offsets bound size low width) (l : 0 < half) (r : half + half ≤ width) where
     -- Where the middle lies before the bound, the search goes on from it; where it does not, nothing from the middle on does, since
@@ -52,8 +51,7 @@ module _ (offsets : List ℕ) (bound size : ℕ) where
     turn-by : (t : Bool) → ltb (getD offsets (low + half) 0) bound ≡ t → Bracket offsets bound size (low + half * boolByte t) (width - half)
     turn-by true e =
         let up : low + half * boolByte true ≡ low + half = omega arith in
-        rw up
-        (record {
+        rw up (record {
           some = omega arith;
           stop = omega (arith, s .stop);
           before = λ g. ltb-true (getD offsets (low + half) 0) bound e;
@@ -61,8 +59,7 @@ module _ (offsets : List ℕ) (bound size : ℕ) where
         })
     turn-by false e =
         let down : low + half * boolByte false ≡ low = omega arith in
-        rw down
-        (record {
+        rw down (record {
           some = omega arith;
           stop = omega (arith, s .stop);
           before = s .before;

@@ -53,13 +53,11 @@ module _ (file : List ℕ) (room : ℕ) (enough : greatestCount ≤ room) where
   unfolding tableAnswerOf tableQuestions roomQuestion question firstNo
   by-validation (Validation.Accepted plan windows) e =
       let p = validated-windows file (Validation.Accepted plan windows) e plan windows refl in
-      plan-first file _ Refused _
-      ∙ rw (← e, le-leb (windowCount file) room (omega (arith, windows-few p, p .counted)), p .counted)
+      plan-first file _ Refused _ ∙ rw (← e, le-leb (windowCount file) room (omega (arith, windows-few p, p .counted)), p .counted)
   by-validation (Validation.Refused refusal) e = plan-first file _ Refused _ ∙ rw (← e)
 
   from-validation : (v : Validation) (refusal : Refusal) → Refused refusal ≡ validated v → v ≡ Validation.Refused refusal
-  from-validation (Validation.Accepted plan windows) refusal e =
-      let z : _≡_ {A = ℕ} 0 1 = cc in absurd (omega arith)
+  from-validation (Validation.Accepted plan windows) refusal e = let z : _≡_ {A = ℕ} 0 1 = cc in absurd (omega arith)
   from-validation (Validation.Refused other) refusal e = cc
 
   -- A refusal is the validation's.
@@ -85,8 +83,7 @@ table-fills file room answer windows e f = by-answer (validateAnswerOf file) ref
         ⊎-elim
         (λ h. let z : _≡_ {A = ℕ} 0 1 = cc (table-short file room (Validation.Accepted plan n) v plan n refl h) in absurd (omega arith))
         (λ h. let same : windows ≡ n = cc (table-filled file room (Validation.Accepted plan n) v plan n refl h) in
-        rw same (validated-windows file (Validation.Accepted plan n) v plan n refl, h))
-        (lt-or-ge room n)
+        rw same (validated-windows file (Validation.Accepted plan n) v plan n refl, h)) (lt-or-ge room n)
 
 -- An accepted plan's file, how many windows it has, and one of its tables.
 pub record Tabled (file : List ℕ) (windows : ℕ) (f : ℕ → ℕ) (entries : List ℕ) : Type 0 where

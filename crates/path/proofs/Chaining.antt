@@ -4,16 +4,13 @@ use Prim.Native.Nat.{ℕ}
 use mathlib.Core.Path.{_≡_, sym, _∙_}
 use mathlib.Core.List.{List, [], _∷_}
 use lib.ListN.{length}
-use Rattle.sequences.specs.Table.{Holds}
-use Rattle.interval_graph.specs.Tree.{parent}
 use Rattle.interval_graph.proofs.ShortestChain.{chain-symmetric}
 use Rattle.wire.specs.declared.Refusal.{Refusal}
 use Rattle.wire.specs.declared.Asked.{Asked}
 use Rattle.wire.specs.declared.Asked.the-variants as asked
-use Rattle.wire.specs.Question.{firstNo, askedOf, positionQuestions, roomQuestion}
+use Rattle.wire.specs.Question.{askedOf, positionQuestions, roomQuestion}
 use Rattle.wire.proofs.Question.{asked-refused, asked-passed}
 use Rattle.plan.specs.declared.questions.Validation.the-variants as Validation
-use Rattle.plan.specs.Overlap.{overlaps}
 use Rattle.plan.specs.Validation.{validateAnswerOf}
 use Rattle.plan.specs.AcceptedWindows.{AcceptedWindows}
 use Rattle.plan.proofs.Accepted.{accepted-validated}

@@ -54,9 +54,7 @@ module _ {n : ℕ} {overlaps : ℕ → ℕ → Bool} (ok : IntervalOrder n overl
   pub past-apart : (r : Bool) → u < x → x < n → r ≡ overlaps u x → not r ≡ ltb (last n overlaps u) x
   past-apart true h g e = sym (le-ltb (last n overlaps u) x (overlap-last ok u x h g (sym e)))
   past-apart false h g e =
-      sym
-      (lt-ltb (last n overlaps u) x
-      (⊎-elim (λ l. l)
+      sym (lt-ltb (last n overlaps u) x (⊎-elim (λ l. l)
       (λ l. absurd (true-false-absurd _ (last-overlap ok u x h l) (sym e))) (lt-or-ge (last n overlaps u) x)))
 
 -- What the test's answer says.
@@ -73,8 +71,7 @@ module _ (n : ℕ) (overlaps : ℕ → ℕ → Bool) (u v : ℕ) where
   climb-few = least-le (λ j. leb (ancestor overlaps j v) (last n overlaps u)) (suc v)
 
   pub climbing-start : Climbing n overlaps u v v 0
-  climbing-start =
-      record { stands = sym (ancestor-zero (tree overlaps) v); fell = omega arith; behind = λ k h. absurd (omega arith) }
+  climbing-start = record { stands = sym (ancestor-zero (tree overlaps) v); fell = omega arith; behind = λ k h. absurd (omega arith) }
 
   module _ (at steps : ℕ) (s : Climbing n overlaps u v at steps) where
     -- A step up to a parent that is another window.
@@ -90,16 +87,14 @@ module _ (n : ℕ) (overlaps : ℕ → ℕ → Bool) (u v : ℕ) where
     pub climbing-arrived : at ≤ last n overlaps u → steps ≡ climb n overlaps u v
     unfolding climb
     climbing-arrived h =
-        sym
-        (least-unique (λ j. leb (ancestor overlaps j v) (last n overlaps u)) (suc v) steps (omega (arith, s .fell))
+        sym (least-unique (λ j. leb (ancestor overlaps j v) (last n overlaps u)) (suc v) steps (omega (arith, s .fell))
         (λ g. le-leb (ancestor overlaps steps v) (last n overlaps u) (rw (← s .stands) h)) (λ j g. lt-leb _ _ (s .behind j g)))
 
     -- Above a root there is none.
     pub climbing-root : last n overlaps u < at → at ≡ parent overlaps at → v + 1 ≡ climb n overlaps u v
     unfolding climb
     climbing-root past root =
-        add-one v
-        ∙ sym
+        add-one v ∙ sym
         (least-unique (λ j. leb (ancestor overlaps j v) (last n overlaps u)) (suc v) (suc v) (omega arith) (λ g. absurd (omega arith))
         (λ j g. lt-leb _ _ (⊎-elim (s .behind j) (stays j) (lt-or-ge j steps))))
       where

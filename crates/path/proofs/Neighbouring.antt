@@ -70,8 +70,7 @@ module _ (p : ℕ → Bool) (n : ℕ) where
         }
 
     pub listed-kept : (before now : List ℕ) → p v ≡ false → Listed p n before now found v → Listed p n before now found (v + 1)
-    listed-kept before now t s =
-        record { so-far = counted-kept t (s .so-far); list = rw (passing-kept p v t) (s .list) }
+    listed-kept before now t s = record { so-far = counted-kept t (s .so-far); list = rw (passing-kept p v t) (s .list) }
 
 -- No more are found than positions were passed.
 pub counted-few : (p : ℕ → Bool) (n found v : ℕ) → Counted p n found v → found ≤ v
@@ -116,14 +115,10 @@ module _ (file : List ℕ) (at room : ℕ) (answer : Validation) (validated : an
       unfolding neighboursAnswerOf neighboursQuestions positionQuestion roomQuestion question firstNo
       neighbours-short short =
           let named = accepted-numbers file plan windows (sym e ∙ validated) .1 in
-          sym
-          (plan-first file _ Refused _
-          ∙ rw (← validated, e, ← named, ← counted, lt-ltb at windows within, lt-leb found room short))
+          sym (plan-first file _ Refused _ ∙ rw (← validated, e, ← named, ← counted, lt-ltb at windows within, lt-leb found room short))
 
       pub neighbours-listed : found ≤ room → Neighbours found ≡ neighboursAnswerOf file at room
       unfolding neighboursAnswerOf neighboursQuestions positionQuestion roomQuestion question firstNo
       neighbours-listed fits =
           let named = accepted-numbers file plan windows (sym e ∙ validated) .1 in
-          sym
-          (plan-first file _ Refused _
-          ∙ rw (← validated, e, ← named, ← counted, lt-ltb at windows within, le-leb found room fits))
+          sym (plan-first file _ Refused _ ∙ rw (← validated, e, ← named, ← counted, lt-ltb at windows within, le-leb found room fits))

@@ -3,7 +3,7 @@
 -- that".
 -- Vocabulary: pairs-iff-overlaps, lasts-pairs, same-iff-numbers, same-*.
 -- Assumes nothing.
-use Prim.Native.Nat.{ℕ, _<_}
+use Prim.Native.Nat.{ℕ}
 use mathlib.Core.Bool.{Bool, true, false, cond, Bool·beq}
 use mathlib.Core.Path.{_≡_, refl, sym, _∙_}
 use mathlib.Core.Logic.{_↔_}

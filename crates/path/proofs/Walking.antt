@@ -38,27 +38,22 @@ module _ (file : List ℕ) (u v : ℕ) where
     pub between-apart : v + 1 < steps → chainBetween file u v ≡ []
     unfolding chainBetween
     between-apart h =
-        ⊎-elim (λ s. absurd (omega (arith, rw (eq-eqb u v s) at e)))
-        (λ d. let p : min u v ≡ u = omega arith in
+        ⊎-elim (λ s. absurd (omega (arith, rw (eq-eqb u v s) at e))) (λ d. let p : min u v ≡ u = omega arith in
         let q : max u v ≡ v = omega arith in
         let some : steps ≡ suc (climb (windowCount file) (overlaps file) u v) = rw (ne-eqb u v d) at e in
         let far : v < climb (windowCount file) (overlaps file) u v = omega arith in
-        chain-none (windowCount file) (overlaps file) u v d (rw (p, q) far))
-        (equal-or-not u v)
+        chain-none (windowCount file) (overlaps file) u v d (rw (p, q) far)) (equal-or-not u v)
 
     -- Others are the chain's.
     pub between-walked : steps ≤ v + 1 → chainBetween file u v ≡ walked file u v steps
     unfolding chainBetween walk table
     between-walked h =
-        ⊎-elim
-        (λ s. let none : steps ≡ 0 = rw (eq-eqb u v s) at e in
-        rw none (chain-same (windowCount file) (overlaps file) u v s))
-        (λ d. let p : min u v ≡ u = omega arith in
+        ⊎-elim (λ s. let none : steps ≡ 0 = rw (eq-eqb u v s) at e in
+        rw none (chain-same (windowCount file) (overlaps file) u v s)) (λ d. let p : min u v ≡ u = omega arith in
         let q : max u v ≡ v = omega arith in
         let some : steps ≡ suc (climb (windowCount file) (overlaps file) u v) = rw (ne-eqb u v d) at e in
         let near : climb (windowCount file) (overlaps file) u v ≤ v = omega arith in
-        rw some (rw (p, q) at (chain-walk (windowCount file) (overlaps file) u v d (rw (p, q) near))))
-        (equal-or-not u v)
+        rw some (rw (p, q) at (chain-walk (windowCount file) (overlaps file) u v d (rw (p, q) near)))) (equal-or-not u v)
 
     -- They are one less than its entries.
     pub between-length : steps ≤ v + 1 → steps + 1 ≡ length (chainBetween file u v)
@@ -75,8 +70,7 @@ pub record Stepping (file : List ℕ) (v steps : ℕ) (before now : List ℕ) (a
 module _ (file : List ℕ) (v steps : ℕ) (before : List ℕ) where
   pub stepping-start : Stepping file v steps before before v 0
   unfolding table
-  stepping-start =
-      record { within = omega arith; stands = sym (ancestor-zero (tree (overlaps file)) v); list = written-none before }
+  stepping-start = record { within = omega arith; stands = sym (ancestor-zero (tree (overlaps file)) v); list = written-none before }
 
   module _ (now : List ℕ) (at step : ℕ) (s : Stepping file v steps before now at step) where
     -- The walk never stands behind the later window.

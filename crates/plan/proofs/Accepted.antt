@@ -2,19 +2,16 @@
 -- Vocabulary: Sound, accepted-sound, sound-accepted, accepted-validated, validated-accepted, offsets-sorted.
 -- Assumes nothing.
 use Prim.Native.Nat.{ℕ, zero, suc, _+_, _-_, _≤_, _<_}
-use mathlib.Core.Bool.{Bool, true}
-use mathlib.Core.Path.{_≡_, refl, sym, _∙_}
+use mathlib.Core.Bool.{true}
+use mathlib.Core.Path.{_≡_, refl, _∙_}
 use mathlib.Core.List.{List, List·Memᴰ, List·Memᴰ·head, List·Memᴰ·tail}
 use native.Mathlib.Omega.{arith}
 use lib.ListN.{length}
-use lib.Dec.{leb, eqb}
 use borrow.Author.Tests.{leb-true, eqb-true, le-leb, eq-eqb}
 use Rattle.sequences.proofs.Tests.{and-intro}
 use Rattle.wire.specs.declared.Refusal.{Refusal}
-use Rattle.wire.specs.Question.{Question, question, each, firstNo, allYes}
+use Rattle.wire.specs.Question.{Question, question, each, allYes}
 use Rattle.wire.proofs.Question.{all-first, first-all, all-member, all-append, append-left, append-right, all-each, each-all}
-use Rattle.plan.specs.declared.windows.Window.{Window}
-use Rattle.plan.specs.declared.questions.Validation.{Validation}
 use Rattle.plan.specs.declared.questions.Validation.the-variants.{Accepted, Refused}
 use Rattle.plan.specs.File.{headerLength, fileLength, planNumber, windowCount, windowAt, endOf}
 use Rattle.plan.specs.Validation.{greatestCount, greatestEnd, offsetBefore, windowQuestions, fileQuestions, planQuestions, AcceptedPlan, validateAnswerOf}
@@ -30,8 +27,7 @@ accepted-validated file ok = all-first (planQuestions file) Refused _ ok
 
 pub validated-accepted : (file : List ℕ) → validateAnswerOf file ≡ Accepted (planNumber file) (windowCount file) → AcceptedPlan file
 unfolding validateAnswerOf
-validated-accepted file e =
-    first-all (planQuestions file) Refused _ (refused-not-accepted (planNumber file) (windowCount file)) e
+validated-accepted file e = first-all (planQuestions file) Refused _ (refused-not-accepted (planNumber file) (windowCount file)) e
 
 pub record Sound (file : List ℕ) : Type 0 where
   pub few : windowCount file ≤ greatestCount
@@ -57,8 +53,7 @@ accepted-sound file ok =
 pub sound-accepted : (file : List ℕ) → Sound file → AcceptedPlan file
 unfolding planQuestions fileQuestions windowQuestions question allYes
 sound-accepted file s =
-    all-append (fileQuestions file) (each (windowsAsked file) 0 (windowCount file))
-    ∙ and-intro (allYes (fileQuestions file)) _
+    all-append (fileQuestions file) (each (windowsAsked file) 0 (windowCount file)) ∙ and-intro (allYes (fileQuestions file)) _
     (rw (le-leb headerLength (length file) (omega (arith, s .whole)), le-leb (windowCount file) greatestCount (s .few), eq-eqb (length file) (fileLength (windowCount file)) (s .whole)))
     (each-all (windowsAsked file) 0 (windowCount file)
     (λ v l h. rw (le-leb 1 (windowAt file v .length) (s .long v (omega arith)), le-leb (endOf (windowAt file v)) greatestEnd (s .early v (omega arith)), le-leb (offsetBefore file v) (windowAt file v .offset) (s .sorted v (omega arith)))))

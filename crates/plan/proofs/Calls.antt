@@ -51,13 +51,11 @@ module _ {A : Type 0} (file : List ℕ) (more : List Question) (refused : Refusa
 -- The same where one question more is asked.
 module _ {A : Type 0} (file : List ℕ) (q : Question) (refused : Refusal → A) (accepted : A) (answer : Validation) (validated : answer ≡ validateAnswerOf file) (plan windows : ℕ) (e : answer ≡ Accepted plan windows) where
   pub one-more-no : q .yes ≡ false → refused (q .refusal) ≡ firstNo (planQuestions file ++ (q ∷ [])) refused accepted
-  one-more-no t =
-      sym (first-no [] refused accepted q t) ∙ plan-accepted file (q ∷ []) refused accepted answer validated plan windows e
+  one-more-no t = sym (first-no [] refused accepted q t) ∙ plan-accepted file (q ∷ []) refused accepted answer validated plan windows e
 
   pub one-more-yes : q .yes ≡ true → accepted ≡ firstNo (planQuestions file ++ (q ∷ [])) refused accepted
   unfolding firstNo
-  one-more-yes t =
-      sym (first-yes [] refused accepted q t) ∙ plan-accepted file (q ∷ []) refused accepted answer validated plan windows e
+  one-more-yes t = sym (first-yes [] refused accepted q t) ∙ plan-accepted file (q ∷ []) refused accepted answer validated plan windows e
 
 -- The questions to a call's second file are answered by its validation, with the second input at fault.
 pub plan-second : {A : Type 0} (file : List ℕ) (refused : Refusal → A) (accepted : A) → firstNo (from 1 (planQuestions file)) refused accepted ≡ afterValidation (validateAnswerOf file) (λ r. refused (refusalFrom 1 r)) accepted

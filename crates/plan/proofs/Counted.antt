@@ -10,11 +10,11 @@ use Rattle.interval_graph.specs.Order.{IntervalOrder}
 use Rattle.plan.specs.declared.questions.Validation.{Validation}
 use Rattle.plan.specs.declared.questions.Validation.the-variants.{Accepted}
 use lib.ListN.{length}
-use Rattle.plan.specs.File.{windowLength, windowPlace, planNumber, windowCount, windowAt, endOf}
+use Rattle.plan.specs.File.{windowLength, windowPlace, windowCount, windowAt, endOf}
 use Rattle.plan.specs.Overlap.{overlaps, boundOf}
 use Rattle.plan.specs.Validation.{greatestCount, AcceptedPlan, validateAnswerOf}
 use Rattle.plan.specs.AcceptedWindows.{AcceptedWindows}
-use Rattle.plan.proofs.Accepted.{Sound, accepted-sound}
+use Rattle.plan.proofs.Accepted.{accepted-sound}
 use Rattle.plan.proofs.Overlap.{interval-order}
 use Rattle.plan.proofs.Calls.{accepted-numbers, accepted-plan}
 

@@ -3,17 +3,16 @@
 -- overlap of an accepted plan is in interval order, which is all that the theory of `interval_graph` asks.
 -- Vocabulary: covers-minute, shared-minutes, overlaps-shares, overlaps-bound, overlaps-end, touching-apart, interval-order.
 -- Assumes nothing.
-use Prim.Native.Nat.{ℕ, zero, suc, _+_, _-_, _≤_, _<_, min, max}
-use mathlib.Core.Bool.{Bool, true, false, not, _&&_}
-use mathlib.Core.Path.{_≡_, refl, sym, ap, _∙_}
+use Prim.Native.Nat.{ℕ, _-_, _≤_, _<_, min, max}
+use mathlib.Core.Bool.{true, false, not, _&&_}
+use mathlib.Core.Path.{_≡_, refl, sym, _∙_}
 use mathlib.Core.Logic.{⊎-elim, _↔_, _≢_}
 use mathlib.Core.List.{List}
 use native.Mathlib.Omega.{arith}
 use lib.Dec.{ltb, leb, eqb}
-use borrow.Author.Tests.{ltb-true, ltb-false, leb-true, leb-false, eqb-true, eqb-false, lt-ltb, le-ltb, le-leb, lt-leb, eq-eqb, ne-eqb, not-true}
-use Rattle.sequences.specs.Search.{count}
-use Rattle.sequences.proofs.Search.{count-range, count-cong}
-use Rattle.sequences.proofs.Tests.{tests, truth, lt-or-ge, and-left, and-right, and-intro, iff-equal}
+use borrow.Author.Tests.{ltb-true, leb-true, eqb-false, lt-ltb, le-leb, ne-eqb, not-true}
+use Rattle.sequences.proofs.Search.{count-range}
+use Rattle.sequences.proofs.Tests.{truth, and-left, and-right, and-intro, iff-equal}
 use Rattle.interval_graph.specs.Order.{IntervalOrder}
 use Rattle.plan.specs.declared.windows.Window.{Window}
 use Rattle.plan.specs.File.{windowCount, windowAt, endOf}
@@ -44,8 +43,7 @@ shared-minutes u v =
     count-range (λ m. covers u m && covers v m) (max (u .offset) (v .offset)) (min (endOf u) (endOf v)) (max (endOf u) (endOf v))
     (λ m h. outside u v m (λ a b. omega arith))
     (λ m l r. and-intro _ _ (minute-covers u m (omega arith) (omega arith)) (minute-covers v m (omega arith) (omega arith)))
-    (λ m h. outside u v m (λ a b. omega arith))
-    (omega arith)
+    (λ m h. outside u v m (λ a b. omega arith)) (omega arith)
 
 -- Two windows overlap exactly if they are two and share at least the minimum of minutes.
 pub overlaps-minimum : (file : List ℕ) (u v : ℕ) → overlaps file u v ≡ true → (u ≢ v) × (minimumHandover ≤ sharedMinutes (windowAt file u) (windowAt file v))

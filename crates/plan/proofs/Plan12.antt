@@ -36,19 +36,9 @@ plan-12-tables = refl
 
 -- Each of questions 1 to 6 by a file that fails it: three bytes; 2,049 windows, also in a short file; a byte too many; length 0 with a
 -- falling offset; the sum 10,000,001; a falling offset. The second window is refused at position 1.
-pub refusals : validateAnswerOf (0 ∷ 0 ∷ 0 ∷ [])
-    ∷ validateAnswerOf (0 ∷ 0 ∷ 1 ∷ 8 ∷ [])
-    ∷ validateAnswerOf (0 ∷ 0 ∷ 0 ∷ 0 ∷ 0 ∷ [])
-    ∷ validateAnswerOf (fileOf 0 (window 5 5 ∷ window 4 0 ∷ []))
-    ∷ validateAnswerOf (fileOf 0 (window 10000000 1 ∷ []))
-    ∷ validateAnswerOf (fileOf 0 (window 5 5 ∷ window 4 5 ∷ []))
-    ∷ []
-    ≡ Refused (refusalBy 1)
-    ∷ Refused (refusalBy 2)
-    ∷ Refused (refusalBy 3)
-    ∷ Refused (refusalAbout 1 (refusalBy 4))
-    ∷ Refused (refusalBy 5)
-    ∷ Refused (refusalAbout 1 (refusalBy 6))
-    ∷ []
+pub refusals : validateAnswerOf (0 ∷ 0 ∷ 0 ∷ []) ∷ validateAnswerOf (0 ∷ 0 ∷ 1 ∷ 8 ∷ []) ∷ validateAnswerOf (0 ∷ 0 ∷ 0 ∷ 0 ∷ 0 ∷ [])
+    ∷ validateAnswerOf (fileOf 0 (window 5 5 ∷ window 4 0 ∷ [])) ∷ validateAnswerOf (fileOf 0 (window 10000000 1 ∷ []))
+    ∷ validateAnswerOf (fileOf 0 (window 5 5 ∷ window 4 5 ∷ [])) ∷ [] ≡ Refused (refusalBy 1) ∷ Refused (refusalBy 2)
+    ∷ Refused (refusalBy 3) ∷ Refused (refusalAbout 1 (refusalBy 4)) ∷ Refused (refusalBy 5) ∷ Refused (refusalAbout 1 (refusalBy 6)) ∷ []
 unfolding meaning
 refusals = refl

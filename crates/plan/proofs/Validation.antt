@@ -1,10 +1,9 @@
 -- Laws of questions 1 to 6: what each answer of `validate` shows, over plain numbers and lists.
 -- Vocabulary: window-at, ask-*, refused-*, windows-answer, Passed, passed-*.
 -- Assumes nothing.
-use Prim.Native.Nat.{ℕ, suc, _+_, _-_, _≤_, _<_}
+use Prim.Native.Nat.{ℕ, _+_, _-_, _≤_, _<_}
 use mathlib.Core.Path.{_≡_, refl, ap}
 use mathlib.Core.List.{List}
-use native.Mathlib.Omega.{arith}
 use native.Mathlib.Nat.{add-sub-cancel-left}
 use native.Mathlib.Numerals.{add-one}
 use lib.ListN.{length, take, drop}
@@ -14,7 +13,6 @@ use Rattle.wire.specs.declared.Asked.the-variants as asked
 use Rattle.wire.specs.Question.{Question, refusalBy, refusalAbout, question, each, firstNo, askedOf}
 use Rattle.wire.proofs.Question.{Asking, asking-start, asking-turn, asking-refused, asking-end}
 use Rattle.plan.specs.declared.windows.Window.{Window}
-use Rattle.plan.specs.declared.questions.Validation.{Validation}
 use Rattle.plan.specs.declared.questions.Validation.the-variants.{Accepted, Refused}
 use Rattle.plan.specs.File.{headerLength, windowLength, fileLength, windowPlace, planNumber, windowCount, windowOf, windowAt, endOf}
 use Rattle.plan.specs.Validation.{greatestCount, greatestEnd, offsetBefore, windowQuestions, fileQuestions, planQuestions, validateAnswerOf}

@@ -39,8 +39,7 @@ windowOf-windowBytes w = rw (whole (w .offset), whole (w .length))
 module _ (w : Window) (l : List ℕ) (at : ℕ) where
   pub window-placed : (a b : List ℕ) → at + windowLength ≤ length l → a ≡ placed l at (bytes32 (w .offset)) → b ≡ placed a (at + 4) (bytes32 (w .length)) → b ≡ placed l at (windowBytes w)
   unfolding windowBytes bytes32
-  window-placed a b room first second =
-      rw (second, first) (placed-behind l at (bytes32 (w .offset)) (bytes32 (w .length)) (omega arith))
+  window-placed a b room first second = rw (second, first) (placed-behind l at (bytes32 (w .offset)) (bytes32 (w .length)) (omega arith))
 
   pub window-unplaced : length l < at + windowLength → l ≡ placed l at (windowBytes w)
   window-unplaced short = sym (placed-short l at (windowBytes w) (omega (arith, length-windowBytes w)))
@@ -71,8 +70,7 @@ module _ (plan : ℕ) (windows : List Window) where
       let header = headerBytes plan (length windows) in
       let place : windowPlace v ≡ length header + windowLength * v = omega (arith, length-headerBytes plan (length windows)) in
       let part : List ℕ → List ℕ = take windowLength in
-      ap windowOf
-      (ap (λ i. part (drop i (header ++ flatMap windowBytes windows))) place
+      ap windowOf (ap (λ i. part (drop i (header ++ flatMap windowBytes windows))) place
       ∙ (ap part (drop-append-add header (flatMap windowBytes windows) (windowLength * v))
       ∙ rw append-nil at (record-part windowBytes windowLength length-windowBytes windows v d [] h)))
       ∙ windowOf-windowBytes (getD windows v d)

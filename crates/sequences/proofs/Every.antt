@@ -24,8 +24,7 @@ module _ (p : ℕ → Bool) where
 
   -- One that fails is enough.
   pub every-fails : (n k : ℕ) → k < n → p k ≡ false → every p n ≡ false
-  every-fails n k h f =
-      ⊎-elim (λ t. absurd (true-false-absurd (p k) (every-at n k t h) f)) (λ t. t) (truth (every p n))
+  every-fails n k h f = ⊎-elim (λ t. absurd (true-false-absurd (p k) (every-at n k t h) f)) (λ t. t) (truth (every p n))
 
 pub every-cong : (p q : ℕ → Bool) (n : ℕ) → ((k : ℕ) → k < n → p k ≡ q k) → every p n ≡ every q n
 every-cong p q n e =

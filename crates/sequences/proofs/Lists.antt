@@ -1,9 +1,9 @@
 -- Laws of `indexOf` and `total`.
 -- Assumes nothing.
 use Prim.Native.Nat.{ℕ, zero, suc, _+_, _≤_, _<_}
-use mathlib.Core.Bool.{Bool, true, false}
-use mathlib.Core.Path.{_≡_, refl, sym, ap, _∙_}
-use mathlib.Core.Logic.{_⊎_, ⊎-elim, _≢_}
+use mathlib.Core.Bool.{true, false}
+use mathlib.Core.Path.{_≡_, refl, sym, ap}
+use mathlib.Core.Logic.{⊎-elim}
 use mathlib.Core.List.{List, [], _∷_, _++_, List·Memᴰ, List·Memᴰ·head, List·Memᴰ·tail, List·Memᴰ·not-nil, List·Memᴰ·cases-cons}
 use native.Mathlib.Omega.{arith}
 use lib.ListN.{length, getD}
@@ -48,12 +48,10 @@ pub index-member : (x : ℕ) (l : List ℕ) → indexOf x l < length l → List�
 unfolding indexOf
 index-member x [] h = absurd (omega arith)
 index-member x (y ∷ l) h =
-    ⊎-elim (λ t. List·Memᴰ·head (eqb-true x y t)) (λ t. List·Memᴰ·tail (index-member x l (omega (arith, rw t at h))))
-    (truth (eqb x y))
+    ⊎-elim (λ t. List·Memᴰ·head (eqb-true x y t)) (λ t. List·Memᴰ·tail (index-member x l (omega (arith, rw t at h)))) (truth (eqb x y))
 
 pub index-absent : (x : ℕ) (l : List ℕ) → (List·Memᴰ x l → ⊥) → indexOf x l ≡ length l
-index-absent x l h =
-    ⊎-elim (λ g. absurd (h (index-member x l g))) (λ g. omega (arith, index-le x l)) (lt-or-ge (indexOf x l) (length l))
+index-absent x l h = ⊎-elim (λ g. absurd (h (index-member x l g))) (λ g. omega (arith, index-le x l)) (lt-or-ge (indexOf x l) (length l))
 
 -- The entries are elements.
 pub getD-member : (l : List ℕ) (i : ℕ) → i < length l → List·Memᴰ (getD l i 0) l

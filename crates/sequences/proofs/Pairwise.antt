@@ -52,8 +52,7 @@ module _ (R : ℕ → ℕ → Type 0) where
       (λ t. let behind : List·Memᴰ y l = member-tail y z l (eqb-false y z t) h in
       ⊎-elim (λ s. rw (eqb-true x z s) (p .0 y behind))
       (λ s. pairwise-index l x y (p .1) (member-tail x z l (eqb-false x z s) g) behind (omega (arith, index-there x z l (eqb-false x z s), index-there y z l (eqb-false y z t))))
-      (truth (eqb x z)))
-      (truth (eqb y z))
+      (truth (eqb x z))) (truth (eqb y z))
 
   module _ (irreflexive : (x : ℕ) → R x x → ⊥) where
     -- The first entry does not come again.

@@ -2,8 +2,8 @@
 -- Assumes nothing.
 use Prim.Native.Nat.{ℕ, zero, suc, _+_, _≤_, _<_}
 use mathlib.Core.Bool.{Bool, true, false}
-use mathlib.Core.Path.{_≡_, refl, sym, ap, _∙_}
-use mathlib.Core.Logic.{_⊎_, ⊎-elim}
+use mathlib.Core.Path.{_≡_, refl, ap}
+use mathlib.Core.Logic.{⊎-elim}
 use mathlib.Core.List.{List, [], _∷_, _++_, List·Memᴰ, List·Memᴰ·head, List·Memᴰ·tail, List·Memᴰ·not-nil, List·Memᴰ·cases-cons}
 use native.Mathlib.Omega.{arith}
 use lib.ListN.{length}
@@ -30,10 +30,7 @@ passing-add p a zero j =
 passing-add p a (suc i) j =
     let e : suc i + j ≡ suc (i + j) = omega arith in
     let f : a + suc i ≡ suc a + i = omega arith in
-    rw (e, f)
-    (⊎-elim
-    (λ t. rw t (ap (λ (l : List ℕ). a ∷ l) (passing-add p (suc a) i j)))
-    (λ t. rw t (passing-add p (suc a) i j))
+    rw (e, f) (⊎-elim (λ t. rw t (ap (λ (l : List ℕ). a ∷ l) (passing-add p (suc a) i j))) (λ t. rw t (passing-add p (suc a) i j))
     (truth (p a)))
 
 -- What is in the list is in the range and passes.
@@ -54,12 +51,9 @@ pub passing-complete : (p : ℕ → Bool) (a m k : ℕ) → a ≤ k → k < a + 
 unfolding passing
 passing-complete p a zero k l r t = absurd (omega arith)
 passing-complete p a (suc m) k l r t =
-    ⊎-elim
-    (λ h. cond-cases (List·Memᴰ k) (p a) (λ s. List·Memᴰ·tail (passing-complete p (suc a) m k h (omega arith) t))
-    (λ s. passing-complete p (suc a) m k h (omega arith) t))
-    (λ h. let e : k ≡ a = omega arith in
-    cond-cases (List·Memᴰ k) (p a) (λ s. List·Memᴰ·head e) (λ s. absurd (true-false-absurd (p a) (rw e at t) s)))
-    (lt-or-ge a k)
+    ⊎-elim (λ h. cond-cases (List·Memᴰ k) (p a) (λ s. List·Memᴰ·tail (passing-complete p (suc a) m k h (omega arith) t))
+    (λ s. passing-complete p (suc a) m k h (omega arith) t)) (λ h. let e : k ≡ a = omega arith in
+    cond-cases (List·Memᴰ k) (p a) (λ s. List·Memᴰ·head e) (λ s. absurd (true-false-absurd (p a) (rw e at t) s))) (lt-or-ge a k)
 
 -- The list is as long as the count over its range.
 pub length-passing : (p : ℕ → Bool) (a k : ℕ) → count p a + length (passing p a k) ≡ count p (a + k)
@@ -67,8 +61,7 @@ unfolding passing
 length-passing p a zero = let e : a + zero ≡ a = omega arith in rw e (omega arith)
 length-passing p a (suc k) =
     let e : a + suc k ≡ suc a + k = omega arith in
-    rw e
-    (⊎-elim (λ t. rw t (omega (arith, length-passing p (suc a) k, count-true p a t)))
+    rw e (⊎-elim (λ t. rw t (omega (arith, length-passing p (suc a) k, count-true p a t)))
     (λ t. rw t (omega (arith, length-passing p (suc a) k, count-false p a t))) (truth (p a)))
 
 -- The list depends on the test in the range only.

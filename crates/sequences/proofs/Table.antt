@@ -2,7 +2,7 @@
 -- Assumes nothing.
 use Prim.Native.Nat.{ℕ, zero, suc, _+_, _-_, _≤_, _<_}
 use mathlib.Core.Path.{_≡_, refl, sym, ap, _∙_}
-use mathlib.Core.Logic.{_⊎_, ⊎-elim}
+use mathlib.Core.Logic.{⊎-elim}
 use mathlib.Core.List.{List, [], _∷_, _++_, append-assoc}
 use native.Mathlib.Omega.{arith}
 use native.Mathlib.Numerals.{add-one}
@@ -22,10 +22,8 @@ module _ {A : Type 0} where
   unfolding table
   getD-table f zero k d h = absurd (omega arith)
   getD-table f (suc n) k d h =
-      ⊎-elim
-      (λ g. List·getD-append (table f n) (f n ∷ []) d k (omega (arith, length-table f n)) ∙ getD-table f n k d g)
-      (λ g. let e : k ≡ n = omega arith in rw e (getD-at (table f n) (f n) [] d n (length-table f n)))
-      (lt-or-ge k n)
+      ⊎-elim (λ g. List·getD-append (table f n) (f n ∷ []) d k (omega (arith, length-table f n)) ∙ getD-table f n k d g)
+      (λ g. let e : k ≡ n = omega arith in rw e (getD-at (table f n) (f n) [] d n (length-table f n))) (lt-or-ge k n)
 
   -- A table depends on f below n only.
   pub table-cong : (f g : ℕ → A) (n : ℕ) → ((k : ℕ) → k < n → f k ≡ g k) → table f n ≡ table g n
@@ -44,8 +42,7 @@ module _ {A : Type 0} where
 
   pub length-overwritten : (l new : List A) → length new ≤ length l → length (overwritten l new) ≡ length l
   unfolding overwritten
-  length-overwritten l new h =
-      omega (arith, length-append new (drop (length new) l), length-drop (length new) l)
+  length-overwritten l new h = omega (arith, length-append new (drop (length new) l), length-drop (length new) l)
 
   -- The front is what was written.
   pub take-overwritten : (l new : List A) → take (length new) (overwritten l new) ≡ new

@@ -14,7 +14,7 @@ use Rattle.sequences.proofs.Tests.{and-left, and-right}
 use Rattle.interval_graph.specs.Numbers.{Numbers}
 use Rattle.wire.specs.LittleEndian.{le16, bytes16}
 use Rattle.wire.proofs.LittleEndian.{bytes16-at}
-use Rattle.tag.specs.Fields.{fieldCount, tagLength, fieldLimit, field, tagOf, numbers, tagWith, tagBytes, withinLimit}
+use Rattle.tag.specs.Fields.{tagLength, fieldLimit, field, tagOf, numbers, tagWith, tagBytes, withinLimit}
 
 -- The fields after the plan number are at most the limit.
 pub record Within (n : Numbers) : Type 0 where

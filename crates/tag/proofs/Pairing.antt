@@ -38,15 +38,13 @@ module _ (first second : List ℕ) where
   first-input = refl
 
   first-asked : (accepted : PairAnswer) → firstNo (readQuestions first) Refused accepted ≡ firstNo (readQuestions first) (λ r. Refused (refusalFrom 0 r)) accepted
-  first-asked accepted =
-      ap (λ qs. firstNo qs Refused accepted) (sym first-input) ∙ first-from 0 (readQuestions first) Refused accepted
+  first-asked accepted = ap (λ qs. firstNo qs Refused accepted) (sym first-input) ∙ first-from 0 (readQuestions first) Refused accepted
 
   -- The questions to the first tag, to the second, and to both.
   questions-in-turn : pairAnswerOf first second ≡ firstNo (readQuestions first) (λ r. Refused (refusalFrom 0 r)) (firstNo (readQuestions second) (λ r. Refused (refusalFrom 1 r)) (comparedOf (numbers (tagOf first)) (numbers (tagOf second))))
   unfolding pairAnswerOf pairQuestions comparedOf
   questions-in-turn =
-      rw (first-append, first-from, first-append, first-from)
-      (first-asked _)
+      rw (first-append, first-from, first-append, first-from) (first-asked _)
 
   -- "A tag that is refused ends the pair call there, before the second tag is read": nothing is asked of the second.
   pub pair-first-refused : (r : Refusal) → readAnswerOf first ≡ read.Refused r → pairAnswerOf first second ≡ Refused (refusalFrom 0 r)
@@ -54,15 +52,12 @@ module _ (first second : List ℕ) where
 
   -- A second tag that is refused after a first that is not.
   pub pair-second-refused : (a : Tag) (r : Refusal) → readAnswerOf first ≡ read.Valid a → readAnswerOf second ≡ read.Refused r → pairAnswerOf first second ≡ Refused (refusalFrom 1 r)
-  pair-second-refused a r e g =
-      questions-in-turn ∙ (questions-valid first _ _ a e ∙ questions-refused second _ _ r g)
+  pair-second-refused a r e g = questions-in-turn ∙ (questions-valid first _ _ a e ∙ questions-refused second _ _ r g)
 
   -- Two tags that are both read answer by their numbers.
   pub pair-valid : (a b : Tag) → readAnswerOf first ≡ read.Valid a → readAnswerOf second ≡ read.Valid b → pairAnswerOf first second ≡ comparedOf (numbers a) (numbers b)
   pair-valid a b e g =
-      questions-in-turn
-      ∙ (questions-valid first _ _ a e
-      ∙ (questions-valid second _ _ b g
+      questions-in-turn ∙ (questions-valid first _ _ a e ∙ (questions-valid second _ _ b g
       ∙ rw (valid-reads first a e .holds, valid-reads second b g .holds)))
 
 -- The answer from the numbers of two tags, case by case.
@@ -122,14 +117,12 @@ module _ (u v : Numbers) where
 -- Question 12 does not depend on the order of the tags.
 pub agreeing-symmetric : (u v : Numbers) → agreeing u v ≡ agreeing v u
 unfolding agreeing
-agreeing-symmetric u v =
-    rw (eqb-symmetric (u .component) (v .component), eqb-symmetric (u .rank) (v .rank), equal-symmetric u v)
+agreeing-symmetric u v = rw (eqb-symmetric (u .component) (v .component), eqb-symmetric (u .rank) (v .rank), equal-symmetric u v)
 
 -- Nor does the answer from two tags' numbers, a refusal by 11 or 12 included.
 pub compared-symmetric : (u v : Numbers) → comparedOf u v ≡ comparedOf v u
 unfolding comparedOf compareQuestions
-compared-symmetric u v =
-    rw (eqb-symmetric (u .plan) (v .plan), agreeing-symmetric u v, outcome-symmetric u v)
+compared-symmetric u v = rw (eqb-symmetric (u .plan) (v .plan), agreeing-symmetric u v, outcome-symmetric u v)
 
 -- Two byte strings that both read answer the same in either order, a refusal by 11 or 12 included.
 pub pair-symmetric : (first second : List ℕ) (a b : Tag) → readAnswerOf first ≡ read.Valid a → readAnswerOf second ≡ read.Valid b → pairAnswerOf first second ≡ pairAnswerOf second first
@@ -209,8 +202,7 @@ unfolding tagCount
 pair-at-tagFile f n first second =
     let long = length-tagFile f n in
     let counted : length (tagFile f n) / tagLength ≡ n = omega arith in
-    pair-at-asked (tagFile f n) first second (omega arith)
-    ∙ (rw counted (passed-parts (askedOf (positionQuestions first second n)) refl)
+    pair-at-asked (tagFile f n) first second (omega arith) ∙ (rw counted (passed-parts (askedOf (positionQuestions first second n)) refl)
     ∙ sym (asked-first (positionQuestions first second n) Refused _))
   where
     passed-parts : (a : Asked) → a ≡ askedOf (positionQuestions first second n) → afterAsked a Refused (pairAnswerOf (tagPart (tagFile f n) first) (tagPart (tagFile f n) second)) ≡ afterAsked a Refused (pairAnswerOf (lookupPart (tagFile f n) first) (lookupPart (tagFile f n) second))

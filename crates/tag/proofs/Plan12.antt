@@ -28,13 +28,9 @@ unfoldable pub tags : List ℕ
 tags = tagFile (numbersOf 7 overlaps 12) 7
 
 -- Its bytes: plan number, and then the component, depth, rank and rank of the last of each line of the listing.
-pub plan-12-tags : tags
-    ≡ (12 ∷ 0 ∷ 0 ∷ 0 ∷ 0 ∷ 0 ∷ 5 ∷ 0 ∷ 4 ∷ 0 ∷ [])
-    ++ ((12 ∷ 0 ∷ 0 ∷ 0 ∷ 1 ∷ 0 ∷ 0 ∷ 0 ∷ 3 ∷ 0 ∷ [])
-    ++ ((12 ∷ 0 ∷ 0 ∷ 0 ∷ 1 ∷ 0 ∷ 3 ∷ 0 ∷ 2 ∷ 0 ∷ [])
-    ++ ((12 ∷ 0 ∷ 0 ∷ 0 ∷ 1 ∷ 0 ∷ 4 ∷ 0 ∷ 4 ∷ 0 ∷ [])
-    ++ ((12 ∷ 0 ∷ 0 ∷ 0 ∷ 2 ∷ 0 ∷ 2 ∷ 0 ∷ 1 ∷ 0 ∷ [])
-    ++ ((12 ∷ 0 ∷ 0 ∷ 0 ∷ 3 ∷ 0 ∷ 1 ∷ 0 ∷ 1 ∷ 0 ∷ [])
+pub plan-12-tags : tags ≡ (12 ∷ 0 ∷ 0 ∷ 0 ∷ 0 ∷ 0 ∷ 5 ∷ 0 ∷ 4 ∷ 0 ∷ []) ++ ((12 ∷ 0 ∷ 0 ∷ 0 ∷ 1 ∷ 0 ∷ 0 ∷ 0 ∷ 3 ∷ 0 ∷ [])
+    ++ ((12 ∷ 0 ∷ 0 ∷ 0 ∷ 1 ∷ 0 ∷ 3 ∷ 0 ∷ 2 ∷ 0 ∷ []) ++ ((12 ∷ 0 ∷ 0 ∷ 0 ∷ 1 ∷ 0 ∷ 4 ∷ 0 ∷ 4 ∷ 0 ∷ [])
+    ++ ((12 ∷ 0 ∷ 0 ∷ 0 ∷ 2 ∷ 0 ∷ 2 ∷ 0 ∷ 1 ∷ 0 ∷ []) ++ ((12 ∷ 0 ∷ 0 ∷ 0 ∷ 3 ∷ 0 ∷ 1 ∷ 0 ∷ 1 ∷ 0 ∷ [])
     ++ (12 ∷ 0 ∷ 1 ∷ 0 ∷ 0 ∷ 0 ∷ 0 ∷ 0 ∷ 0 ∷ 0 ∷ []))))))
 unfolding meaning tags
 plan-12-tags = refl
@@ -51,21 +47,13 @@ plan-12-answers = refl
 
 -- The tag with these fields.
 unfoldable pub tag : ℕ → ℕ → ℕ → ℕ → ℕ → List ℕ
-tag plan component depth rank last =
-    tagBytes (record { plan = plan; component = component; depth = depth; rank = rank; last = last })
+tag plan component depth rank last = tagBytes (record { plan = plan; component = component; depth = depth; rank = rank; last = last })
 
 -- No tag at the position past the last, before a field of 2,048; a field of 2,048 alone; another plan, before one rank at two
 -- depths; and that alone.
-pub refusals : pairAnswerOf (lookupPart tags 7) (tag 12 2048 0 0 0)
-    ∷ pairAnswerOf (tag 12 0 0 5 4) (tag 12 0 0 0 2048)
-    ∷ pairAnswerOf (tag 12 0 0 5 4) (tag 13 0 1 5 4)
-    ∷ pairAnswerOf (tag 12 0 0 5 4) (tag 12 0 1 5 4)
-    ∷ []
-    ≡ Refused (refusalBy 9)
-    ∷ Refused (refusalFrom 1 (refusalBy 10))
-    ∷ Refused (refusalFrom 1 (refusalBy 11))
-    ∷ Refused (refusalFrom 1 (refusalBy 12))
-    ∷ []
+pub refusals : pairAnswerOf (lookupPart tags 7) (tag 12 2048 0 0 0) ∷ pairAnswerOf (tag 12 0 0 5 4) (tag 12 0 0 0 2048)
+    ∷ pairAnswerOf (tag 12 0 0 5 4) (tag 13 0 1 5 4) ∷ pairAnswerOf (tag 12 0 0 5 4) (tag 12 0 1 5 4) ∷ [] ≡ Refused (refusalBy 9)
+    ∷ Refused (refusalFrom 1 (refusalBy 10)) ∷ Refused (refusalFrom 1 (refusalBy 11)) ∷ Refused (refusalFrom 1 (refusalBy 12)) ∷ []
 unfolding meaning tags tag
 refusals = refl
 

@@ -57,8 +57,7 @@ module _ (tags : List ℕ) (at : ℕ) where
 -- In a file of n tags every position below n is found.
 pub lookup-position : (tags : List ℕ) (n v : ℕ) → length tags ≡ tagLength * n → v < n → lookupPart tags v ≡ tagPart tags v
 unfolding tagCount
-lookup-position tags n v long within =
-    part-found tags v (sym (lookup-found tags v (omega arith) (omega arith)))
+lookup-position tags n v long within = part-found tags v (sym (lookup-found tags v (omega arith) (omega arith)))
 
 module _ (f : ℕ → Numbers) where
   -- A tag file is as long as its tags.

@@ -99,8 +99,7 @@ tag-front n out = rw (length-tagBytes n) at (take-overwritten out (tagBytes n))
 -- A tag that is written reads back as the same five numbers.
 pub written-reads-back : (n : Numbers) (out : List ℕ) → writeAnswerOf n out ≡ Written → readAnswerOf (take tagLength (afterWrite (writeAnswerOf n out) n out)) ≡ Valid (tagWith n)
 unfolding afterWrite
-written-reads-back n out e =
-    rw (e, tag-front n out) (tagBytes-read n (written-fits n out e .within))
+written-reads-back n out e = rw (e, tag-front n out) (tagBytes-read n (written-fits n out e .within))
 
 -- Bytes that read as a tag are those of its numbers.
 pub read-tagBytes : (bytes : List ℕ) (t : Tag) → ((i : ℕ) → getD bytes i 0 < 256) → readAnswerOf bytes ≡ Valid t → tagBytes (numbers t) ≡ bytes

@@ -81,10 +81,8 @@ module _ (n p c d r l t : ℕ) where
         le-leb n c (s .components-room),
         le-leb n d (s .depths-room),
         le-leb n r (s .ranks-room),
-        le-leb n l
-            (s .last-ranks-room),
-      )
-      (le-leb (tagLength * n) t (s .tags-room))
+        le-leb n l (s .last-ranks-room),
+      ) (le-leb (tagLength * n) t (s .tags-room))
 
   fit-rooms : tablesFit n p c d r l t ≡ true → Rooms n p c d r l t
   unfolding tablesFit
@@ -110,8 +108,7 @@ module _ (n p c d r l t : ℕ) where
   least-fit : n ≤ greatestCount → leb n (leastRoom p c d r l t) ≡ tablesFit n p c d r l t
   least-fit few =
       iff-equal (leb n (leastRoom p c d r l t)) (tablesFit n p c d r l t)
-      (λ s. rooms-fit (least-rooms (leb-true n (leastRoom p c d r l t) s)))
-      (λ s. let rooms = fit-rooms s in
+      (λ s. rooms-fit (least-rooms (leb-true n (leastRoom p c d r l t) s))) (λ s. let rooms = fit-rooms s in
       le-leb n (leastRoom p c d r l t)
       (omega (arith, rooms .parents-room, rooms .components-room, rooms .depths-room, rooms .ranks-room, rooms .last-ranks-room, rooms .tags-room)))
 
@@ -123,30 +120,24 @@ module _ {file : List ℕ} {windows : ℕ} (plan : AcceptedWindows file windows)
 
   pub roots-counted : (r : ℕ) → r ≡ count (Forest.isRoot (parentIn parents)) k → k ≡ windows → r ≡ componentCount file
   unfolding componentCount
-  roots-counted r e all =
-      e ∙ rw (all, ← plan .counted) (count-cong _ _ windows (root-test-agrees (tree (overlaps file)) same))
+  roots-counted r e all = e ∙ rw (all, ← plan .counted) (count-cong _ _ windows (root-test-agrees (tree (overlaps file)) same))
 
   module _ (before now : List ℕ) where
     pub components-filled : now ≡ overwritten before (table (Forest.component (parentIn parents)) k) → k ≡ windows →
         now ≡ overwritten before (table (componentOf file) windows)
     unfolding componentOf
-    components-filled e all =
-        e ∙ ap (overwritten before) (rw all (table-cong _ _ windows (component-agrees (tree (overlaps file)) same)))
+    components-filled e all = e ∙ ap (overwritten before) (rw all (table-cong _ _ windows (component-agrees (tree (overlaps file)) same)))
 
     pub depths-filled : now ≡ overwritten before (table (Forest.depth (parentIn parents)) k) → k ≡ windows →
         now ≡ overwritten before (table (depthOf file) windows)
     unfolding depthOf
-    depths-filled e all =
-        e ∙ ap (overwritten before) (rw all (table-cong _ _ windows (depth-agrees (tree (overlaps file)) same)))
+    depths-filled e all = e ∙ ap (overwritten before) (rw all (table-cong _ _ windows (depth-agrees (tree (overlaps file)) same)))
 
     pub ranks-filled : now ≡ overwritten before (table (Forest.rank k (parentIn parents)) k) → k ≡ windows →
         now ≡ overwritten before (table (rankOf file) windows)
     unfolding rankOf
     ranks-filled e all =
-        e
-        ∙ ap (overwritten before)
-        (rw all
-        (table-cong _ _ windows
+        e ∙ ap (overwritten before) (rw all (table-cong _ _ windows
         (λ v h. rank-agrees (tree (overlaps file)) same v h ∙ ap (λ n. rank n (overlaps file) v) (plan .counted))))
 
 -- Ranks looked up by lasts are the ranks of the lasts.
@@ -160,8 +151,7 @@ module _ {file : List ℕ} {windows : ℕ} (plan : AcceptedWindows file windows)
 
   pub last-ranks-filled : (k : ℕ) (before now : List ℕ) → now ≡ overwritten before (table (lookedUp ranks lasts) k) → k ≡ windows →
       now ≡ overwritten before (table (lastRankOf file) windows)
-  last-ranks-filled k before now e all =
-      e ∙ ap (overwritten before) (rw all (table-cong _ _ windows last-rank-found))
+  last-ranks-filled k before now e all = e ∙ ap (overwritten before) (rw all (table-cong _ _ windows last-rank-found))
 
 -- The four tables that tags are made of hold the numbers of the windows, and none is too great.
 module _ {file : List ℕ} {windows : ℕ} (plan : AcceptedWindows file windows) (number : ℕ)
@@ -229,12 +219,10 @@ table-built file p c d r l t = by-answer (validateAnswerOf file) refl
         ap (built file) (sym (table-refused file k _ v refusal refl)) ∙ build-refused file p c d r l t _ v refusal refl
     by-answer (Validation.Accepted plan n) v =
         let test : leb n k ≡ tablesFit n p c d r l t = least-fit n p c d r l t (windows-few (validated-windows file _ v plan n refl)) in
-        ⊎-elim
-        (λ h. ap (built file) (sym (table-short file k _ v plan n refl h))
+        ⊎-elim (λ h. ap (built file) (sym (table-short file k _ v plan n refl h))
         ∙ build-short file p c d r l t _ v plan n refl (sym test ∙ lt-leb n k h))
         (λ h. ap (built file) (sym (table-filled file k _ v plan n refl h))
-        ∙ build-built file p c d r l t _ v plan n refl _ _ refl (sym test ∙ le-leb n k h) refl)
-        (lt-or-ge k n)
+        ∙ build-built file p c d r l t _ v plan n refl _ _ refl (sym test ∙ le-leb n k h) refl) (lt-or-ge k n)
 
 module _ (file : List ℕ) (p c d r l t : ℕ) (answer : TableAnswer) (asked : answer ≡ tableAnswerOf file (leastRoom p c d r l t)) where
   pub table-build-refused : (refusal : Refusal) → answer ≡ TableAnswer.Refused refusal → Refused refusal ≡ buildAnswerOf file p c d r l t

@@ -1,14 +1,10 @@
 -- Paper 01's plan 12, from its bytes: its tables, the numbers of its tags and its answers come out of the definitions by computation,
 -- and a refusal leaves a table as it was.
 -- Assumes nothing.
-use Prim.Native.Nat.{ℕ}
 use mathlib.Core.Path.{_≡_, refl}
-use mathlib.Core.List.{List, [], _∷_, _++_, flatMap}
-use lib.ListN.{length, drop}
+use mathlib.Core.List.{[], _∷_}
 use Rattle.sequences.specs.Table.{table, overwritten}
-use Rattle.interval_graph.specs.Numbers.{Numbers, numbersOf}
 use Rattle.interval_graph.specs.Reach.{lastInComponent, reach}
-use Rattle.wire.specs.LittleEndian.{bytes16}
 use Rattle.wire.specs.Question.{refusalBy, roomQuestion, positionQuestion}
 use Rattle.plan.proofs.Plan12.{file, meaning}
 use Rattle.tag.specs.Fields.{tagBytes}
@@ -25,11 +21,8 @@ unfolding meaning lastInComponent reach roomQuestion positionQuestion overwritte
 answers = tt
 
 pub plan-12-tables : table (componentOf file) 7 ∷ table (depthOf file) 7 ∷ table (rankOf file) 7 ∷ table (lastRankOf file) 7 ∷ []
-    ≡ (0 ∷ 0 ∷ 0 ∷ 0 ∷ 0 ∷ 0 ∷ 1 ∷ [])
-    ∷ (0 ∷ 1 ∷ 1 ∷ 1 ∷ 2 ∷ 3 ∷ 0 ∷ [])
-    ∷ (5 ∷ 0 ∷ 3 ∷ 4 ∷ 2 ∷ 1 ∷ 0 ∷ [])
-    ∷ (4 ∷ 3 ∷ 2 ∷ 4 ∷ 1 ∷ 1 ∷ 0 ∷ [])
-    ∷ []
+    ≡ (0 ∷ 0 ∷ 0 ∷ 0 ∷ 0 ∷ 0 ∷ 1 ∷ []) ∷ (0 ∷ 1 ∷ 1 ∷ 1 ∷ 2 ∷ 3 ∷ 0 ∷ []) ∷ (5 ∷ 0 ∷ 3 ∷ 4 ∷ 2 ∷ 1 ∷ 0 ∷ [])
+    ∷ (4 ∷ 3 ∷ 2 ∷ 4 ∷ 1 ∷ 1 ∷ 0 ∷ []) ∷ []
 unfolding answers
 plan-12-tables = refl
 
@@ -41,15 +34,13 @@ plan-12-tags = refl
 
 -- Tables that just hold the windows, and one entry or one byte less.
 pub plan-12-built : buildAnswerOf file 7 7 7 7 7 70 ∷ buildAnswerOf file 7 7 6 7 7 70 ∷ buildAnswerOf file 7 7 7 7 7 69 ∷ tagsAnswerOf file 70 ∷ tagsAnswerOf
-    file 69 ∷ []
-    ≡ Built 12 7 2 ∷ Refused (refusalBy 8) ∷ Refused (refusalBy 8) ∷ Built 12 7 2 ∷ Refused (refusalBy 8) ∷ []
+    file 69 ∷ [] ≡ Built 12 7 2 ∷ Refused (refusalBy 8) ∷ Refused (refusalBy 8) ∷ Built 12 7 2 ∷ Refused (refusalBy 8) ∷ []
 unfolding answers
 plan-12-built = refl
 
 -- What lies past the written entries stays, and a refusal alters nothing.
 pub plan-12-after : afterBuild (Built 12 2 1) (rankOf file) (9 ∷ 9 ∷ 9 ∷ []) ∷ afterBuild (Refused (refusalBy 8)) (rankOf file) (9 ∷ []) ∷ afterTags
-    (Refused (refusalBy 8)) (numbersAt file) (9 ∷ []) ∷ []
-    ≡ (5 ∷ 0 ∷ 9 ∷ []) ∷ (9 ∷ []) ∷ (9 ∷ []) ∷ []
+    (Refused (refusalBy 8)) (numbersAt file) (9 ∷ []) ∷ [] ≡ (5 ∷ 0 ∷ 9 ∷ []) ∷ (9 ∷ []) ∷ (9 ∷ []) ∷ []
 unfolding answers
 plan-12-after = refl
 

@@ -49,8 +49,7 @@ module _ (l : List ℕ) (n at : ℕ) where
     running-turn h e = record { low = omega (arith, s .low); high = h; same = e }
 
     pub running-stops : (getD l (last + 1) 0 ≡ getD l at 0 → ⊥) → RunEnd l n at last
-    running-stops different =
-        record { low = s .low; high = s .high; same = s .same; other = λ h e. different (rw (add-one last) e) }
+    running-stops different = record { low = s .low; high = s .high; same = s .same; other = λ h e. different (rw (add-one last) e) }
 
     pub running-ends : n ≤ last + 1 → RunEnd l n at last
     running-ends done = record { low = s .low; high = s .high; same = s .same; other = λ h e. omega arith }
@@ -72,15 +71,11 @@ module _ {file : List ℕ} {windows : ℕ} (plan : AcceptedWindows file windows)
   unfolding end
   run-last =
       le-antisymm
-      (lastInComponent-greatest windows (overlaps file) at last (s .high) (sym (here last (s .high)) ∙ (s .same ∙ here at start)))
-      (⊎-elim
+      (lastInComponent-greatest windows (overlaps file) at last (s .high) (sym (here last (s .high)) ∙ (s .same ∙ here at start))) (⊎-elim
       (λ l. let within : end < windows = lastInComponent-window windows (overlaps file) at start in
-      absurd (s .other (omega arith)
-      (here (suc last) (omega arith)
+      absurd (s .other (omega arith) (here (suc last) (omega arith)
       ∙ (component-contiguous (windows-order plan) at (suc last) end (omega (arith, s .low)) l within (sym (lastInComponent-component windows
-      (overlaps file) at))
-      ∙ sym (here at start)))))
-      (λ l. l) (lt-or-ge last end))
+      (overlaps file) at)) ∙ sym (here at start))))) (λ l. l) (lt-or-ge last end))
 
   -- The reach is one more than the depth there, which is small.
   pub reach-depth : getD depths last 0 + 1 ≡ reach windows (overlaps file) at

@@ -53,8 +53,7 @@ module _ (numbers : ℕ → Numbers) (windows v : ℕ) (h : v < windows) (fit : 
       record {
         within = omega arith;
         written = whole;
-        long = rw whole (length-overwritten tags₀ (tagFile numbers (v + 1)) (omega
-            (arith, length-tagFile numbers (v + 1))));
+        long = rw whole (length-overwritten tags₀ (tagFile numbers (v + 1)) (omega (arith, length-tagFile numbers (v + 1))));
       }
     where
       rest : List ℕ
@@ -65,8 +64,7 @@ module _ (numbers : ℕ → Numbers) (windows v : ℕ) (h : v < windows) (fit : 
 
       accepted : answer ≡ Written
       accepted =
-          answered
-          ∙ (ap (writeAnswerOf (numbers v)) left
+          answered ∙ (ap (writeAnswerOf (numbers v)) left
           ∙ sym (write-written (numbers v) rest (omega (arith, length-drop (tagLength * v) tags, s .long)) fit))
 
       put : part ≡ overwritten rest (tagBytes (numbers v))
@@ -74,6 +72,5 @@ module _ (numbers : ℕ → Numbers) (windows v : ℕ) (h : v < windows) (fit : 
 
       whole : putMid (tagLength * v) (length tags - tagLength * v) tags part ≡ overwritten tags₀ (tagFile numbers (v + 1))
       whole =
-          put-to-end (tagLength * v) tags part (omega (arith, s .long))
-          ∙ (ap (λ (l : List ℕ). take (tagLength * v) tags ++ l) put
+          put-to-end (tagLength * v) tags part (omega (arith, s .long)) ∙ (ap (λ (l : List ℕ). take (tagLength * v) tags ++ l) put
           ∙ rw (s .written, add-one v) (tagFile-turn numbers v tags₀))

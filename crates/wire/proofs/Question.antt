@@ -3,8 +3,8 @@
 -- Vocabulary: first-*, asked-*, all-*, each-*, Asking, asking-*.
 -- Assumes nothing.
 use Prim.Native.Nat.{ℕ, zero, suc, _+_, _-_, _≤_, _<_}
-use mathlib.Core.Bool.{Bool, true, false, _&&_}
-use mathlib.Core.Path.{_≡_, refl, sym, ap, _∙_}
+use mathlib.Core.Bool.{true, false, _&&_}
+use mathlib.Core.Path.{_≡_, refl, sym, _∙_}
 use mathlib.Core.Logic.{_⊎_, inl, inr, ⊎-elim}
 use mathlib.Core.List.{List, [], _∷_, _++_, List·Memᴰ, List·Memᴰ·head, List·Memᴰ·tail, List·Memᴰ·not-nil, List·Memᴰ·cases-cons}
 use native.Mathlib.Omega.{arith}
@@ -49,15 +49,13 @@ first-about position (q ∷ qs) refused accepted = rw (first-about position qs r
 pub first-map : {A B : Type 0} (f : A → B) (qs : List Question) (refused : Refusal → A) (accepted : A) → f (firstNo qs refused accepted) ≡ firstNo qs (λ r. f (refused r)) (f accepted)
 unfolding firstNo
 first-map f [] refused accepted = refl
-first-map f (q ∷ qs) refused accepted =
-    ⊎-elim (λ t. rw t (first-map f qs refused accepted)) (λ t. rw t) (truth (q .yes))
+first-map f (q ∷ qs) refused accepted = ⊎-elim (λ t. rw t (first-map f qs refused accepted)) (λ t. rw t) (truth (q .yes))
 
 -- The answer is what is accepted, or some refusal.
 pub first-cases : {A : Type 0} (qs : List Question) (refused : Refusal → A) (accepted : A) → (firstNo qs refused accepted ≡ accepted) ⊎ ((r : Refusal) × (firstNo qs refused accepted ≡ refused r))
 unfolding firstNo
 first-cases [] refused accepted = inl refl
-first-cases (q ∷ qs) refused accepted =
-    ⊎-elim (λ t. rw t (first-cases qs refused accepted)) (λ t. inr (q .refusal, rw t)) (truth (q .yes))
+first-cases (q ∷ qs) refused accepted = ⊎-elim (λ t. rw t (first-cases qs refused accepted)) (λ t. inr (q .refusal, rw t)) (truth (q .yes))
 
 -- An answer that is no refusal is what is accepted.
 pub answer-accepted : {A : Type 0} (qs : List Question) (refused : Refusal → A) (accepted a : A) → ((r : Refusal) → refused r ≡ a → ⊥) → firstNo qs refused accepted ≡ a → accepted ≡ a
@@ -90,18 +88,15 @@ pub all-first : {A : Type 0} (qs : List Question) (refused : Refusal → A) (acc
 unfolding allYes firstNo
 all-first [] refused accepted t = refl
 all-first (q ∷ qs) refused accepted t =
-    first-yes qs refused accepted q (and-left (q .yes) (allYes qs) t)
-    ∙ all-first qs refused accepted (and-right (q .yes) (allYes qs) t)
+    first-yes qs refused accepted q (and-left (q .yes) (allYes qs) t) ∙ all-first qs refused accepted (and-right (q .yes) (allYes qs) t)
 
 -- Where the answer is what is accepted, and no refusal is that, no question is answered "no".
 pub first-all : {A : Type 0} (qs : List Question) (refused : Refusal → A) (accepted : A) → ((r : Refusal) → refused r ≡ accepted → ⊥) → firstNo qs refused accepted ≡ accepted → allYes qs ≡ true
 unfolding allYes
 first-all [] refused accepted apart e = refl
 first-all (q ∷ qs) refused accepted apart e =
-    ⊎-elim
-    (λ t. and-intro (q .yes) (allYes qs) t (first-all qs refused accepted apart (sym (first-yes qs refused accepted q t) ∙ e)))
-    (λ t. absurd (apart (q .refusal) (sym (first-no qs refused accepted q t) ∙ e)))
-    (truth (q .yes))
+    ⊎-elim (λ t. and-intro (q .yes) (allYes qs) t (first-all qs refused accepted apart (sym (first-yes qs refused accepted q t) ∙ e)))
+    (λ t. absurd (apart (q .refusal) (sym (first-no qs refused accepted q t) ∙ e))) (truth (q .yes))
 
 -- Each of them is answered "yes".
 pub all-member : (qs : List Question) → allYes qs ≡ true → (q : Question) → List·Memᴰ q qs → q .yes ≡ true
@@ -126,8 +121,7 @@ all-about position (q ∷ qs) = rw (all-about position qs)
 pub all-append : (qs later : List Question) → allYes (qs ++ later) ≡ (allYes qs && allYes later)
 unfolding allYes
 all-append [] later = refl
-all-append (q ∷ qs) later =
-    rw (all-append qs later) (⊎-elim (λ t. rw t) (λ t. rw t) (truth (q .yes)))
+all-append (q ∷ qs) later = rw (all-append qs later) (⊎-elim (λ t. rw t) (λ t. rw t) (truth (q .yes)))
 
 pub append-left : (qs later : List Question) → allYes (qs ++ later) ≡ true → allYes qs ≡ true
 append-left qs later t = and-left (allYes qs) (allYes later) (sym (all-append qs later) ∙ t)
@@ -149,11 +143,9 @@ module _ (questions : ℕ → List Question) where
   unfolding each
   all-each v zero t u l r = absurd (omega arith)
   all-each v (suc k) t u l r =
-      ⊎-elim
-      (λ h. all-each (suc v) k (append-right (about v (questions v)) (each questions (suc v) k) t) u h (omega arith))
+      ⊎-elim (λ h. all-each (suc v) k (append-right (about v (questions v)) (each questions (suc v) k) t) u h (omega arith))
       (λ h. let e : u ≡ v = omega arith in
-      rw e (sym (all-about v (questions v)) ∙ append-left (about v (questions v)) (each questions (suc v) k) t))
-      (lt-or-ge v u)
+      rw e (sym (all-about v (questions v)) ∙ append-left (about v (questions v)) (each questions (suc v) k) t)) (lt-or-ge v u)
 
 -- A pass that asks window after window, before the window at v: the questions that are left give the answer of all.
 pub record Asking {A : Type 0} (questions : ℕ → List Question) (refused : Refusal → A) (accepted : A) (n v : ℕ) : Type 0 where
@@ -174,8 +166,7 @@ module _ {A : Type 0} (questions : ℕ → List Question) (refused : Refusal →
     unfolding each
     here =
         let e : n - v ≡ suc (n - (v + 1)) = omega arith in
-        rw (e, add-one v)
-        (first-append (about v (questions v)) (each questions (suc v) (n - suc v)) refused accepted
+        rw (e, add-one v) (first-append (about v (questions v)) (each questions (suc v) (n - suc v)) refused accepted
         ∙ (first-about v (questions v) refused _ ∙ asked-first (questions v) _ _))
 
     -- One window more that passes.

@@ -24,5 +24,4 @@ returns-3 : tie.Need-returns-3
 returns-3 c = both-within _ _ _ (c .before .if1 .left) (c .if2 .left)
 
 pub ask-positions-spec : {M : Type 1} → statement M
-ask-positions-spec =
-    tie.close (tie.spec by-requires returns by-requires-2 from-requires returns-2 returns-3)
+ask-positions-spec = tie.close (tie.spec by-requires returns by-requires-2 from-requires returns-2 returns-3)

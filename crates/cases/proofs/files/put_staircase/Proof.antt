@@ -38,8 +38,7 @@ returns c = search needs
 
 pub put-staircase-spec : {M : Type 1} → statement M
 put-staircase-spec =
-    tie.close
-    (tie.spec
+    tie.close (tie.spec
     Inv-loop
     μ-loop
     loop-holds

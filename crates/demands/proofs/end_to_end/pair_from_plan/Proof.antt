@@ -54,8 +54,7 @@ returns-2 c = let d = c .before .before .before in
 
 pub pair-from-plan-spec : {M : Type 1} → statement M
 pair-from-plan-spec =
-    tie.close
-    (tie.spec
+    tie.close (tie.spec
     slice-aggregate-tag-file
     tag-file-requires
     enum-known-windows

@@ -107,22 +107,19 @@ returns c = let s = c .before .loop .inv in
     rw (
       ← c .before .before .before .before .before .smaller .ensures,
       ← c .before .before .before .before .smaller2 .ensures,
-      ← c .before .before
-          .before .smaller3 .ensures,
+      ← c .before .before .before .smaller3 .ensures,
       ← c .before .before .smaller4 .ensures,
     ) (
       leveled-end (table-forest _) _ _ _ s done,
       (
-        filling-end _ _ _ _ _ done
-            (s .components-filling),
+        filling-end _ _ _ _ _ done (s .components-filling),
         filling-end _ _ _ _ _ done (s .depths-filling),
       ),
     )
 
 pub fill-levels-spec : {M : Type 1} → statement M
 fill-levels-spec =
-    tie.close
-    (tie.spec
+    tie.close (tie.spec
     Inv-loop
     μ-loop
     smaller-requires

@@ -64,8 +64,7 @@ returns c = let e = c .before .before .smaller3 .ensures in
 
 pub look-up-spec : {M : Type 1} → statement M
 look-up-spec =
-    tie.close
-    (tie.spec
+    tie.close (tie.spec
     Inv-loop
     μ-loop
     smaller-requires

@@ -24,5 +24,4 @@ returns c = (c .smaller .ensures, omega arith)
 
 pub parent-at-spec : {M : Type 1} → statement M
 parent-at-spec =
-    tie.close
-    (tie.spec mul-smaller shared-slice-read-smaller cast-smaller smaller-requires returns)
+    tie.close (tie.spec mul-smaller shared-slice-read-smaller cast-smaller smaller-requires returns)

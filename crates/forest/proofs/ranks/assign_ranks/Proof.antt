@@ -7,7 +7,7 @@ use lib.ListN.{length-set}
 use Rattle.sequences.proofs.Table.{filling-end}
 use Rattle.forest.specs.Parents.{parentIn}
 use Rattle.forest.proofs.Parented.{table-forest}
-use Rattle.forest.proofs.Ranking.{Ranked, ranked-start, ranked-root, ranked-child, list-few, list-some, child-start, root-start}
+use Rattle.forest.proofs.Ranking.{Ranked, ranked-start, ranked-root, ranked-child, list-few, list-some, child-start}
 use borrow.Author.Needs.{needs}
 use Rattle.forest.proofs.ranks.assign_ranks.Statement.{statement}
 use Rattle.forest.proofs.ranks.assign_ranks.Tie as tie
@@ -104,8 +104,7 @@ returns c = filling-end _ _ _ _ _ (c .loop-test .left) (c .before .loop .inv .fi
 
 pub assign-ranks-spec : {M : Type 1} → statement M
 assign-ranks-spec =
-    tie.close
-    (tie.spec
+    tie.close (tie.spec
     Inv-loop
     μ-loop
     loop-holds

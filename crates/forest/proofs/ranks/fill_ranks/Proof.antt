@@ -37,16 +37,13 @@ same-length c = search needs
 returns : tie.Need-returns
 returns c = rw (
   ← c .before .before .before .before .before .before .before .before .before .before .before .before .smaller .ensures,
-  ← c .before
-      .before .before .before .before .before .before .before .before .before .before .smaller2 .ensures,
-  ← c .before .before .before .before .before
-      .before .before .before .before .before .smaller3 .ensures,
+  ← c .before .before .before .before .before .before .before .before .before .before .before .smaller2 .ensures,
+  ← c .before .before .before .before .before .before .before .before .before .before .smaller3 .ensures,
 ) (c .before .before .before .assign-ranks .ensures)
 
 pub fill-ranks-spec : {M : Type 1} → statement M
 fill-ranks-spec =
-    tie.close
-    (tie.spec
+    tie.close (tie.spec
     smaller-requires
     smaller-requires-2
     smaller-requires-3

@@ -1,7 +1,7 @@
 -- `forest::sizes::add_sizes` meets its contract. The loop's invariant: `Sized`, and the length stays. The measure is the windows that
 -- are left.
 -- Assumes nothing.
-use mathlib.Core.Path.{_≡_, refl, _∙_}
+use mathlib.Core.Path.{_≡_, refl}
 use native.Mathlib.Omega.{arith}
 use lib.ListN.{length, length-set}
 use Rattle.forest.specs.Parents.{parentIn}
@@ -77,8 +77,7 @@ returns c = sized-end (table-forest _) _ _ _ (c .loop-test .left) (c .before .lo
 
 pub add-sizes-spec : {M : Type 1} → statement M
 add-sizes-spec =
-    tie.close
-    (tie.spec
+    tie.close (tie.spec
     Inv-loop
     μ-loop
     loop-holds

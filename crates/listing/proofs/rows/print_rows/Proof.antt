@@ -66,8 +66,7 @@ returns c = search needs
 
 pub print-rows-spec : {M : Type 1} → statement M
 print-rows-spec =
-    tie.close
-    (tie.spec
+    tie.close (tie.spec
     Inv-loop
     μ-loop
     loop-holds

@@ -32,8 +32,7 @@ returns-3 c = table-filled _ _ _ (c .before .before .before .before .validate .e
 
 pub table-room-spec : {M : Type 1} → statement M
 table-room-spec =
-    tie.close
-    (tie.spec
+    tie.close (tie.spec
     validate-requires
     enum-known-windows
     enum-known-refusal

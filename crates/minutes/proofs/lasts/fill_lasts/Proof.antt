@@ -29,8 +29,7 @@ returns c = search needs
 
 pub fill-lasts-spec : {M : Type 1} → statement M
 fill-lasts-spec =
-    tie.close
-    (tie.spec
+    tie.close (tie.spec
     slice-aggregate-read-offsets
     read-offsets-requires
     slice-aggregate-find-lasts

@@ -56,8 +56,7 @@ returns c = filling-end _ _ _ _ _ (c .loop-test .left) (c .before .loop .inv)
 
 pub find-lasts-spec : {M : Type 1} → statement M
 find-lasts-spec =
-    tie.close
-    (tie.spec
+    tie.close (tie.spec
     Inv-loop
     μ-loop
     loop-holds

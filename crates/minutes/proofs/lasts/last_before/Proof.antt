@@ -56,8 +56,7 @@ returns c = bracket-found _ _ _ _ _ (c .loop-test .left) (c .before .loop .inv)
 
 pub last-before-spec : {M : Type 1} → statement M
 last-before-spec =
-    tie.close
-    (tie.spec
+    tie.close (tie.spec
     Inv-loop
     μ-loop
     loop-holds

@@ -39,8 +39,7 @@ returns-2 c = (
 
 pub last-table-spec : {M : Type 1} → statement M
 last-table-spec =
-    tie.close
-    (tie.spec
+    tie.close (tie.spec
     table-room-requires
     enum-known-refusal
     enum-known-windows

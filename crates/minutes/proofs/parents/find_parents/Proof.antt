@@ -53,8 +53,7 @@ returns c = filling-end _ _ _ _ _ (c .loop-test .left) (c .before .loop .inv .fi
 
 pub find-parents-spec : {M : Type 1} → statement M
 find-parents-spec =
-    tie.close
-    (tie.spec
+    tie.close (tie.spec
     Inv-loop
     μ-loop
     loop-holds

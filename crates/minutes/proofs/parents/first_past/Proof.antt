@@ -38,8 +38,7 @@ returns-2 c = none-past-found _ _ _ _ _ (λ h. absurd (omega arith)) (c .before 
 
 pub first-past-spec : {M : Type 1} → statement M
 first-past-spec =
-    tie.close
-    (tie.spec
+    tie.close (tie.spec
     Inv-loop
     μ-loop
     loop-holds

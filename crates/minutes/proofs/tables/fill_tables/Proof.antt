@@ -34,8 +34,7 @@ find-parents-requires c κs = let fills = table-fills _ _ _ _ (c .before .before
         arith,
         fills .1,
         c .before .before .before .before .before .smaller2 .ensures,
-        c .before .before .before .before .before
-            .before .smaller .ensures,
+        c .before .before .before .before .before .before .smaller .ensures,
       ),
     )
 
@@ -50,16 +49,14 @@ fill-lasts-requires c κs = let fills = table-fills _ _ _ _ (c .before .before .
         arith,
         fills .1,
         c .before .before .before .before .before .before .before .before .before .smaller2 .ensures,
-        c .before
-            .before .before .before .before .before .before .before .before .before .smaller .ensures,
+        c .before .before .before .before .before .before .before .before .before .before .smaller .ensures,
       ),
     )
 
 returns : tie.Need-returns
 unfolding afterTable
 returns c = (
-  table-asked _ _ _ _ (sym (c .before .refusal .given .1)
-      ∙ c .before .before .before .table-room .ensures) (omega
+  table-asked _ _ _ _ (sym (c .before .refusal .given .1) ∙ c .before .before .before .table-room .ensures) (omega
       (arith, c .before .before .before .before .before .smaller .ensures, c .before .before .before .before .smaller2 .ensures)),
   (refl, refl),
 )
@@ -77,16 +74,14 @@ returns-2 c = (
       ∙ c .before .before .before .before .before .before .before .before .before .before .before .table-room .ensures) (omega (
         arith,
         c .before .before .before .before .before .before .before .before .before .before .before .before .before .smaller .ensures,
-        c .before
-            .before .before .before .before .before .before .before .before .before .before .before .smaller2 .ensures,
+        c .before .before .before .before .before .before .before .before .before .before .before .before .smaller2 .ensures,
       )),
   (c .before .before .before .before .before .before .find-parents .ensures, c .before .before .fill-lasts .ensures),
 )
 
 pub fill-tables-spec : {M : Type 1} → statement M
 fill-tables-spec =
-    tie.close
-    (tie.spec
+    tie.close (tie.spec
     smaller-requires
     smaller-requires-2
     table-room-requires

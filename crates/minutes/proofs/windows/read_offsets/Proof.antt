@@ -2,7 +2,6 @@
 -- of the windows.
 -- Assumes nothing.
 use Prim.Native.Nat.{_-_}
-use native.Mathlib.Omega.{arith}
 use Rattle.sequences.proofs.Table.{Filling, filling-start, filling-turn, filling-end}
 use Rattle.minutes.specs.Tables.{offsetAt}
 use borrow.Author.Needs.{needs}
@@ -45,8 +44,7 @@ returns c = filling-end _ _ _ _ _ (c .loop-test .left) (c .before .loop .inv)
 
 pub read-offsets-spec : {M : Type 1} → statement M
 read-offsets-spec =
-    tie.close
-    (tie.spec
+    tie.close (tie.spec
     Inv-loop
     μ-loop
     loop-holds

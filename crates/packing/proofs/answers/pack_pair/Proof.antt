@@ -37,8 +37,7 @@ returns-3 c = rw (c .before .before .answer2 .given .1) (c .pack-refusal .ensure
 
 pub pack-pair-spec : {M : Type 1} → statement M
 pack-pair-spec =
-    tie.close
-    (tie.spec
+    tie.close (tie.spec
     enum-known-answer
     pack-requires
     enum-told

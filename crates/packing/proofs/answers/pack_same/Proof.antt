@@ -37,8 +37,7 @@ returns-3 c = rw (c .before .before .answer .given .1) (c .pack-refusal .ensures
 
 pub pack-same-spec : {M : Type 1} → statement M
 pack-same-spec =
-    tie.close
-    (tie.spec
+    tie.close (tie.spec
     enum-told
     pack-requires
     enum-told-2

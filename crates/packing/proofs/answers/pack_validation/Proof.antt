@@ -27,8 +27,7 @@ returns-2 c = rw (c .before .before .answer2 .given .1) (c .pack-refusal .ensure
 
 pub pack-validation-spec : {M : Type 1} → statement M
 pack-validation-spec =
-    tie.close
-    (tie.spec
+    tie.close (tie.spec
     enum-known-answer
     pack-requires
     enum-known-answer-2

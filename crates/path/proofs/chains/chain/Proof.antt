@@ -1,7 +1,7 @@
 -- `path::chains::chain` meets its contract: the validation's refusal, then question 7 of each position, and then what is left, in
 -- either order of naming.
 -- Assumes nothing.
-use mathlib.Core.Path.{_≡_, refl, sym, _∙_}
+use mathlib.Core.Path.{refl, sym, _∙_}
 use native.Mathlib.Omega.{arith}
 use Rattle.wire.proofs.Question.{passed-within}
 use Rattle.plan.specs.Validation.{greatestCount}
@@ -96,8 +96,7 @@ returns-4 c = let b = c .before .before .before .before .before .before in
 
 pub chain-spec : {M : Type 1} → statement M
 chain-spec =
-    tie.close
-    (tie.spec
+    tie.close (tie.spec
     slice-aggregate-parent-table
     parent-table-requires
     enum-known-windows

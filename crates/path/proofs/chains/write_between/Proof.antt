@@ -48,8 +48,7 @@ returns-3 c = let d = c .before .before .before .before .before .before .before 
 
 pub write-between-spec : {M : Type 1} → statement M
 write-between-spec =
-    tie.close
-    (tie.spec
+    tie.close (tie.spec
     steps-before-requires
     add-if1
     returns

@@ -49,8 +49,7 @@ returns c = let d = c .before .before .before .before in
 
 pub count-neighbours-spec : {M : Type 1} → statement M
 count-neighbours-spec =
-    tie.close
-    (tie.spec
+    tie.close (tie.spec
     Inv-loop
     μ-loop
     window-at-requires

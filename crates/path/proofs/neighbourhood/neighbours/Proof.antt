@@ -67,8 +67,7 @@ returns-4 c = (neighbours-listed _ _ _ _ (c .before .before .before .before .bef
 
 pub neighbours-spec : {M : Type 1} → statement M
 neighbours-spec =
-    tie.close
-    (tie.spec
+    tie.close (tie.spec
     validate-requires
     enum-known-windows
     enum-known-refusal

@@ -68,8 +68,7 @@ returns c = let d = c .before .before .before .before .before in
 
 pub write-neighbours-spec : {M : Type 1} → statement M
 write-neighbours-spec =
-    tie.close
-    (tie.spec
+    tie.close (tie.spec
     Inv-loop
     μ-loop
     window-at-requires

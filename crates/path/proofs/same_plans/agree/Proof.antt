@@ -50,8 +50,7 @@ returns-2 c = sym (every-intro _ _ (λ k h. eq-eqb _ _ (c .before .loop .inv .1 
 
 pub agree-spec : {M : Type 1} → statement M
 agree-spec =
-    tie.close
-    (tie.spec
+    tie.close (tie.spec
     Inv-loop
     μ-loop
     loop-holds

@@ -74,8 +74,7 @@ returns-5 c = let t = tabled _ _ _ _ _ _ (c .before .before .before .before .bef
 
 pub same-spec : {M : Type 1} → statement M
 same-spec =
-    tie.close
-    (tie.spec
+    tie.close (tie.spec
     slice-aggregate-last-table
     last-table-requires
     enum-known-windows

@@ -62,8 +62,7 @@ returns-2 c = climbing-arrived _ _ _ _ _ _ (c .before .before .loop .inv) (past-
 
 pub climb-steps-spec : {M : Type 1} → statement M
 climb-steps-spec =
-    tie.close
-    (tie.spec
+    tie.close (tie.spec
     Inv-loop
     μ-loop
     loop-holds

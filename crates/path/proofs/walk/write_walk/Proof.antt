@@ -65,8 +65,7 @@ returns c = let d = c .before .before in
 
 pub write-walk-spec : {M : Type 1} → statement M
 write-walk-spec =
-    tie.close
-    (tie.spec
+    tie.close (tie.spec
     Inv-loop
     μ-loop
     loop-holds

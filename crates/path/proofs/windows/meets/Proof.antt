@@ -28,8 +28,7 @@ returns-3 c = let q = c .before .before .before .before .before .pre in
 
 pub meets-spec : {M : Type 1} → statement M
 meets-spec =
-    tie.close
-    (tie.spec
+    tie.close (tie.spec
     returns
     window-at-requires
     overlap-in-order-requires

@@ -34,8 +34,7 @@ returns c = window-at _ _ _ (c .read-window .ensures)
 
 pub window-at-spec : {M : Type 1} → statement M
 window-at-spec =
-    tie.close
-    (tie.spec
+    tie.close (tie.spec
     mul-at
     add-at
     add-read-window

@@ -33,8 +33,7 @@ returns-4 c = ask-none _ _ (c .before .before .before .before .if1 .left) (omega
 
 pub ask-window-spec : {M : Type 1} → statement M
 ask-window-spec =
-    tie.close
-    (tie.spec
+    tie.close (tie.spec
     by-requires
     returns
     window-end-requires

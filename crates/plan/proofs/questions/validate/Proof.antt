@@ -2,7 +2,6 @@
 -- windows give the answer.
 -- Assumes nothing.
 use mathlib.Core.Path.{_∙_}
-use native.Mathlib.Omega.{arith}
 use Rattle.plan.specs.File.{planNumber, windowCount}
 use Rattle.plan.proofs.Validation.{refused-1, refused-2, refused-3, windows-answer}
 use borrow.Author.Needs.{needs}
@@ -61,8 +60,7 @@ returns-4 c = let d = c .before .before .before .before in
 
 pub validate-spec : {M : Type 1} → statement M
 validate-spec =
-    tie.close
-    (tie.spec
+    tie.close (tie.spec
     by-requires
     returns
     read-u16-requires

@@ -76,8 +76,7 @@ returns-2 c = passed-end _ _ _ _ _ (c .loop-test .left) (c .before .loop .inv)
 
 pub validate-windows-spec : {M : Type 1} → statement M
 validate-windows-spec =
-    tie.close
-    (tie.spec
+    tie.close (tie.spec
     Inv-loop
     μ-loop
     loop-holds

@@ -36,8 +36,7 @@ returns-3 c = let second = c .before .before in
 
 pub write-window-spec : {M : Type 1} → statement M
 write-window-spec =
-    tie.close
-    (tie.spec
+    tie.close (tie.spec
     returns
     sub-if2
     returns-2

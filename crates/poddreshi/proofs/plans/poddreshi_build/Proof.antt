@@ -36,8 +36,7 @@ returns c = let below = c .before .before .before .before .before .before .befor
 
 pub poddreshi-build-spec : {M : Type 1} → statement M
 poddreshi-build-spec =
-    tie.close
-    (tie.spec
+    tie.close (tie.spec
     build-requires
     pack-build-requires
     same-length

@@ -20,5 +20,4 @@ returns c = let below = c .before .before .before .neighbours .ensures in
     (c .pack-neighbours .ensures ∙ ap packedNeighbours (below .0), rw (below .0) at (below .1))
 
 pub poddreshi-neighbours-spec : {M : Type 1} → statement M
-poddreshi-neighbours-spec =
-    tie.close (tie.spec neighbours-requires pack-neighbours-requires same-length returns)
+poddreshi-neighbours-spec = tie.close (tie.spec neighbours-requires pack-neighbours-requires same-length returns)

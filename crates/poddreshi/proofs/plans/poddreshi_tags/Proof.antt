@@ -21,5 +21,4 @@ returns c = let below = c .before .before .before .tag-file .ensures in
     (c .pack-build .ensures ∙ ap packedBuild (below .0), rw (below .0) at (below .1))
 
 pub poddreshi-tags-spec : {M : Type 1} → statement M
-poddreshi-tags-spec =
-    tie.close (tie.spec tag-file-requires pack-build-requires same-length returns)
+poddreshi-tags-spec = tie.close (tie.spec tag-file-requires pack-build-requires same-length returns)

@@ -33,8 +33,7 @@ returns c = let told = c .before .before .lookup-refusal .ensures in
 
 pub poddreshi-lookup-spec : {M : Type 1} → statement M
 poddreshi-lookup-spec =
-    tie.close
-    (tie.spec
+    tie.close (tie.spec
     lookup-refusal-requires
     enum-told
     mul-offset

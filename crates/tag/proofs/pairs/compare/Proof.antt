@@ -57,8 +57,7 @@ returns-3 c = compared-equal _ _ (c .before .before .before .before .if1 .left)
 returns-4 : tie.Need-returns-4
 unfolding numbers
 returns-4 c = let d = c .before .before .before in
-    compared-components _ _ (d .before .before .before .before .if1 .left)
-    (agreed (d .before .before)) (unequal d) (c .if4 .taken)
+    compared-components _ _ (d .before .before .before .before .if1 .left) (agreed (d .before .before)) (unequal d) (c .if4 .taken)
 
 comes-first-requires : tie.Need-comes-first-requires
 comes-first-requires c κs = search needs
@@ -72,8 +71,7 @@ returns-5 : tie.Need-returns-5
 unfolding numbers
 returns-5 c = let e = c .before .before .before in
     let d = e .before .before .before in
-    ap Handovers (c .between .ensures)
-    ∙ compared-first _ _ (d .before .before .before .before .if1 .left)
+    ap Handovers (c .between .ensures) ∙ compared-first _ _ (d .before .before .before .before .if1 .left)
     (agreed (d .before .before)) (unequal d) (e .if4 .left) (sym (c .before .before .comes-first .ensures) ∙ c .before .if5 .taken)
 
 between-requires-2 : tie.Need-between-requires-2
@@ -85,14 +83,12 @@ returns-6 : tie.Need-returns-6
 unfolding numbers
 returns-6 c = let e = c .before .before .before in
     let d = e .before .before .before in
-    ap Handovers (c .between2 .ensures)
-    ∙ compared-second _ _ (d .before .before .before .before .if1 .left)
+    ap Handovers (c .between2 .ensures) ∙ compared-second _ _ (d .before .before .before .before .if1 .left)
     (agreed (d .before .before)) (unequal d) (e .if4 .left) (sym (c .before .before .comes-first .ensures) ∙ c .before .if5 .left)
 
 pub compare-spec : {M : Type 1} → statement M
 compare-spec =
-    tie.close
-    (tie.spec
+    tie.close (tie.spec
     by-requires
     from-requires
     returns

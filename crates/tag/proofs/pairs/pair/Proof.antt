@@ -63,8 +63,7 @@ returns-3 c = let d = c .before in
 
 pub pair-spec : {M : Type 1} → statement M
 pair-spec =
-    tie.close
-    (tie.spec
+    tie.close (tie.spec
     read-requires
     enum-known-first-read
     enum-told

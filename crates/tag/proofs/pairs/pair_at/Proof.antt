@@ -57,8 +57,7 @@ returns-3 c = let d = c .before .before .before in
 
 pub pair-at-spec : {M : Type 1} → statement M
 pair-at-spec =
-    tie.close
-    (tie.spec
+    tie.close (tie.spec
     by-requires
     returns
     ask-positions-requires

@@ -1,6 +1,6 @@
 -- `tag::reader::within_limit` meets its contract: field after field is held against the limit.
 -- Assumes nothing.
-use Rattle.tag.specs.Fields.{numbers, fieldLimit}
+use Rattle.tag.specs.Fields.{numbers}
 use Rattle.tag.proofs.Fields.{component-over, depth-over, rank-over, last-decides}
 use Rattle.tag.proofs.reader.within_limit.Statement.{statement}
 use Rattle.tag.proofs.reader.within_limit.Tie as tie

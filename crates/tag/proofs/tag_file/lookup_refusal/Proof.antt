@@ -2,7 +2,6 @@
 -- Assumes nothing.
 use mathlib.Core.Path.{ap, _∙_}
 use Rattle.tag.specs.declared.tag_file.LookupAnswer.the-variants.{Refused}
-use Rattle.tag.specs.Fields.{tagLength, fieldCount}
 use Rattle.tag.specs.TagFile.{tagCount}
 use Rattle.tag.proofs.TagFile.{lookup-9, lookup-7, lookup-found}
 use borrow.Author.Needs.{needs}
@@ -27,5 +26,4 @@ unfolding tagCount
 returns-3 c = lookup-found _ _ (c .before .if1 .left) (c .if2 .left)
 
 pub lookup-refusal-spec : {M : Type 1} → statement M
-lookup-refusal-spec =
-    tie.close (tie.spec by-requires returns by-requires-2 returns-2 returns-3)
+lookup-refusal-spec = tie.close (tie.spec by-requires returns by-requires-2 returns-2 returns-3)

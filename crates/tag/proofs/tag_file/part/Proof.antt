@@ -28,5 +28,4 @@ unfolding tagPart
 returns c = rw (add-sub-cancel-left (tagLength * (c .before .args .at)) tagLength)
 
 pub part-spec : {M : Type 1} → statement M
-part-spec =
-    tie.close (tie.spec mul-start add-result sub-result part-result-start part-result-end returns)
+part-spec = tie.close (tie.spec mul-start add-result sub-result part-result-start part-result-end returns)

@@ -36,8 +36,7 @@ returns c = let fifth = c .before .before in
 
 pub put-spec : {M : Type 1} → statement M
 put-spec =
-    tie.close
-    (tie.spec
+    tie.close (tie.spec
     write-u16-requires
     write-u16-requires-2
     write-u16-requires-3

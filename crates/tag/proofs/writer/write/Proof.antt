@@ -3,7 +3,7 @@
 use mathlib.Core.Path.{sym, ap, _∙_}
 use borrow.Author.Tests.{not-true, not-false}
 use Rattle.tag.specs.declared.writer.WriteAnswer.the-variants.{Refused}
-use Rattle.tag.specs.Fields.{tagLength, fieldCount, numbers}
+use Rattle.tag.specs.Fields.{numbers}
 use Rattle.tag.specs.Writing.{afterWrite}
 use Rattle.tag.proofs.Writing.{write-8, write-10, write-written, refused-after}
 use borrow.Author.Needs.{needs}
@@ -45,8 +45,7 @@ returns-3 c = let d = c .before .before .before .before in (
 
 pub write-spec : {M : Type 1} → statement M
 write-spec =
-    tie.close
-    (tie.spec
+    tie.close (tie.spec
     by-requires
     returns
     within-limit-requires

@@ -1,7 +1,6 @@
 -- `tree::building::build` meets its contract: the refusal of the plan or of question 8, or each pass over what those before it left.
 -- Assumes nothing.
 use mathlib.Core.Path.{refl, ap, _∙_}
-use native.Mathlib.Omega.{arith}
 use Rattle.sequences.specs.Table.{overwritten}
 use Rattle.sequences.proofs.Table.{overwritten-holds}
 use Rattle.plan.specs.File.{planNumber}
@@ -97,12 +96,9 @@ returns : tie.Need-returns
 unfolding afterBuild afterTags afterTable
 returns c = let asked = rw (
   c .before .before .before .before .before .before .before .before .before .smaller4 .ensures,
-  c .before .before .before
-      .before .before .before .before .before .before .before .smaller3 .ensures,
-  c .before .before .before .before .before .before .before .before
-      .before .before .before .smaller2 .ensures,
-  c .before .before .before .before .before .before .before .before .before .before .before
-      .before .smaller .ensures,
+  c .before .before .before .before .before .before .before .before .before .before .smaller3 .ensures,
+  c .before .before .before .before .before .before .before .before .before .before .before .smaller2 .ensures,
+  c .before .before .before .before .before .before .before .before .before .before .before .before .smaller .ensures,
 ) at (c .before .before .before .before .before .before .fill-tables .ensures .0) in
     let e = c .before .refusal .given .1 in (
       table-build-refused _ _ _ _ _ _ _ _ asked _ e,
@@ -202,8 +198,7 @@ same-length-7 c = search needs
 
 pub build-spec : {M : Type 1} → statement M
 build-spec =
-    tie.close
-    (tie.spec
+    tie.close (tie.spec
     smaller-requires
     smaller-requires-2
     smaller-requires-3

@@ -33,8 +33,7 @@ returns c = let b = c .before .before .before .before .before .before .before .b
 
 pub tag-file-spec : {M : Type 1} → statement M
 tag-file-spec =
-    tie.close
-    (tie.spec
+    tie.close (tie.spec
     slice-aggregate-build
     slice-aggregate-build-2
     slice-aggregate-build-3

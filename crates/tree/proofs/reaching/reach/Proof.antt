@@ -113,8 +113,7 @@ returns-3 c = let t = tabled _ _ _ _ _ _ (c .before .before .before .before .bef
 
 pub reach-spec : {M : Type 1} → statement M
 reach-spec =
-    tie.close
-    (tie.spec
+    tie.close (tie.spec
     slice-aggregate-parent-table
     parent-table-requires
     enum-known-windows

@@ -1,7 +1,6 @@
 -- `tree::reaching::run_end` meets its contract. The loop's invariant is `Running`; the measure is what is left of the table.
 -- Assumes nothing.
 use Prim.Native.Nat.{_-_}
-use native.Mathlib.Omega.{arith}
 use Rattle.tree.proofs.Reached.{Running, running-start, running-turn, running-stops, running-ends}
 use borrow.Author.Needs.{needs}
 use Rattle.tree.proofs.reaching.run_end.Statement.{statement}
@@ -51,8 +50,7 @@ returns-2 c = running-ends _ _ _ _ (c .before .loop .inv) (c .loop-test .left)
 
 pub run-end-spec : {M : Type 1} → statement M
 run-end-spec =
-    tie.close
-    (tie.spec
+    tie.close (tie.spec
     Inv-loop
     μ-loop
     loop-holds

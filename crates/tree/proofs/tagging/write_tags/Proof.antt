@@ -1,7 +1,6 @@
 -- `tree::tagging::write_tags` meets its contract. The loop's invariant is `Tagged`; the measure is what is left of the windows.
 -- Assumes nothing.
 use Prim.Native.Nat.{_-_}
-use native.Mathlib.Omega.{arith}
 use Rattle.tree.specs.Tagging.{numbersIn}
 use Rattle.tree.proofs.Tagged.{Tagged, tagged-start, tagged-turn, tagged-end}
 use borrow.Author.Needs.{needs}
@@ -77,8 +76,7 @@ returns c = tagged-end _ _ _ _ _ (c .loop-test .left) (c .before .loop .inv)
 
 pub write-tags-spec : {M : Type 1} → statement M
 write-tags-spec =
-    tie.close
-    (tie.spec
+    tie.close (tie.spec
     Inv-loop
     μ-loop
     loop-holds

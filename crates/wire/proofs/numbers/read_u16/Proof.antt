@@ -29,8 +29,7 @@ returns-2 c = omega arith
 
 pub read-u16-spec : {M : Type 1} → statement M
 read-u16-spec =
-    tie.close
-    (tie.spec
+    tie.close (tie.spec
     returns
     shared-slice-read-two-bytes
     add-byte-at

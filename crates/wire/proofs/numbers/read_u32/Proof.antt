@@ -73,8 +73,7 @@ returns-3 c = omega arith
 
 pub read-u32-spec : {M : Type 1} → statement M
 read-u32-spec =
-    tie.close
-    (tie.spec
+    tie.close (tie.spec
     returns
     sub-if2
     shared-slice-read-four-bytes

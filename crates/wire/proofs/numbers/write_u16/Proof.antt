@@ -40,8 +40,7 @@ returns-3 c = sym (placed-two _ _ _ (omega arith))
 
 pub write-u16-spec : {M : Type 1} → statement M
 write-u16-spec =
-    tie.close
-    (tie.spec
+    tie.close (tie.spec
     returns
     sub-if2
     returns-2

@@ -58,8 +58,7 @@ returns-3 c = sym (placed-four _ _ _ (omega arith))
 
 pub write-u32-spec : {M : Type 1} → statement M
 write-u32-spec =
-    tie.close
-    (tie.spec
+    tie.close (tie.spec
     returns
     sub-if2
     returns-2

@@ -3,7 +3,6 @@
 use mathlib.Core.Path.{sym, ap, _∙_}
 use borrow.Author.Tests.{not-true, not-false}
 use Rattle.tag.specs.declared.reader.TagRead.the-variants.{Refused}
-use Rattle.tag.specs.Fields.{tagLength, fieldCount}
 use Rattle.tag.proofs.Reading.{read-9, read-10, read-valid}
 use borrow.Author.Needs.{needs}
 use Rattle.tag.proofs.reader.Tag.read.Statement.{statement}
@@ -35,8 +34,7 @@ returns-3 c = read-valid _ _ (c .before .before .before .if1 .left) (c .before .
 
 pub read-spec : {M : Type 1} → statement M
 read-spec =
-    tie.close
-    (tie.spec
+    tie.close (tie.spec
     by-requires
     returns
     tag-of-requires
