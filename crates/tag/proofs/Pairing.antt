@@ -8,15 +8,15 @@ use mathlib.Core.Path.{_≡_, refl, sym, ap, _∙_}
 use mathlib.Core.List.{List, _++_, List·Memᴰ·head, List·Memᴰ·tail}
 use native.Mathlib.Omega.{arith}
 use lib.ListN.{length}
-use borrow.Author.Tests.{eq-eqb, ne-eqb}
+use borrow.Author.Tests.{eq-eqb, ne-eqb, eqb-true, ltb-true}
 use Rattle.sequences.proofs.Tests.{eqb-symmetric}
 use Rattle.interval_graph.specs.Numbers.{Numbers, Outcome, apart, no-chain, equal, comesFirst, between, outcome}
 use Rattle.interval_graph.proofs.Outcome.{equal-refl, equal-symmetric, outcome-equal, outcome-components, outcome-first, outcome-second, outcome-symmetric, outcome-most}
 use Rattle.wire.specs.declared.Refusal.{Refusal}
 use Rattle.wire.specs.declared.Asked.{Asked}
 use Rattle.wire.specs.declared.Asked.the-variants as asked
-use Rattle.wire.specs.Question.{refusalBy, refusalFrom, question, from, firstNo, askedOf, positionQuestions}
-use Rattle.wire.proofs.Question.{first-append, first-from, answer-accepted, afterAsked, asked-first, first-all, all-member, all-from, append-left, append-right, passed-within}
+use Rattle.wire.specs.Question.{refusalBy, refusalFrom, question, from, firstNo, askedOf, positionQuestion, positionQuestions}
+use Rattle.wire.proofs.Question.{first-append, first-from, answer-accepted, afterAsked, asked-first, asked-refused, asked-passed, first-all, all-member, all-from, append-left, append-right, passed-within}
 use Rattle.tag.specs.declared.reader.Tag.{Tag}
 use Rattle.tag.specs.declared.reader.TagRead.the-variants as read
 use Rattle.tag.specs.declared.pairs.PairAnswer.{PairAnswer}
@@ -24,11 +24,11 @@ use Rattle.tag.specs.declared.pairs.PairAnswer.the-variants.{Handovers, 
 use Rattle.tag.specs.Fields.{tagLength, fieldLimit, tagOf, numbers, tagWith, tagBytes, withinLimit}
 use Rattle.tag.specs.Reading.{readQuestions, readAnswerOf}
 use Rattle.tag.specs.TagFile.{tagFile, tagCount, tagPart, tagFileQuestion, lookupPart}
-use Rattle.tag.specs.Pairing.{agreeing, compareQuestions, pairQuestions, answerOf, comparedOf, pairAnswerOf, pairAtQuestions, pairAtAnswerOf}
+use Rattle.tag.specs.Pairing.{agreeing, compareQuestions, pairQuestions, answerOf, comparedOf, pairAnswerOf, placeQuestions, pairAtQuestions, pairAtAnswerOf}
 use Rattle.tag.proofs.Fields.{Within, within-limit, numbers-tagWith}
 use Rattle.tag.proofs.Reading.{valid-reads, questions-valid, questions-refused}
 use Rattle.tag.proofs.Writing.{tagBytes-read}
-use Rattle.tag.proofs.TagFile.{lookup-position, length-tagFile, tagFile-lookup}
+use Rattle.tag.proofs.TagFile.{lookup-found, part-found, lookup-position, length-tagFile, tagFile-lookup}
 
 -- The answer from two byte strings, by their readings.
 module _ (first second : List ℕ) where
@@ -185,12 +185,36 @@ pair-most first second k e =
 
 -- The answer for two positions of a tag file: 9, 7, and then the two tags.
 module _ (tags : List ℕ) (first second : ℕ) where
-  pub pair-at-9 : (length tags % tagLength ≡ 0 → ⊥) → Refused (refusalBy 9) ≡ pairAtAnswerOf tags first second
-  unfolding pairAtAnswerOf pairAtQuestions tagFileQuestion firstNo question
-  pair-at-9 other = rw (ne-eqb (length tags % tagLength) 0 other)
+  pub places-9 : (length tags % tagLength ≡ 0 → ⊥) → asked.Refused (refusalBy 9) ≡ askedOf (placeQuestions tags first second)
+  unfolding askedOf placeQuestions tagFileQuestion firstNo question
+  places-9 other = rw (ne-eqb (length tags % tagLength) 0 other)
+
+  pub places-whole : length tags % tagLength ≡ 0 → askedOf (positionQuestions first second (tagCount tags)) ≡ askedOf (placeQuestions tags first second)
+  unfolding askedOf placeQuestions tagFileQuestion firstNo question
+  places-whole whole = rw (eq-eqb (length tags % tagLength) 0 whole)
+
+  places-found : asked.Passed ≡ askedOf (placeQuestions tags first second) → (lookupPart tags first ≡ tagPart tags first) × (lookupPart tags second ≡ tagPart tags second)
+  unfolding askedOf placeQuestions positionQuestions positionQuestion tagFileQuestion question from
+  places-found e =
+      let all = all-member (placeQuestions tags first second) (first-all (placeQuestions tags first second) asked.Refused asked.Passed (λ r s. let z : _≡_ {A = ℕ} 0 1 = cc in omega arith) (sym e)) in
+      let whole = eqb-true _ _ (all _ (List·Memᴰ·head refl)) in (
+        part-found tags first (sym (lookup-found tags first whole (ltb-true _ _ (all _ (List·Memᴰ·tail (List·Memᴰ·head refl)))))),
+        part-found tags second (sym (lookup-found tags second whole (ltb-true _ _ (all _ (List·Memᴰ·tail (List·Memᴰ·tail (List·Memᴰ·head refl))))))),
+      )
+
+  module _ (answer : Asked) (e : answer ≡ askedOf (placeQuestions tags first second)) where
+    pub pair-at-refused : (r : Refusal) → answer ≡ asked.Refused r → Refused r ≡ pairAtAnswerOf tags first second
+    unfolding pairAtAnswerOf pairAtQuestions
+    pair-at-refused = asked-refused (placeQuestions tags first second) _ Refused _ answer e
+
+    pub pair-at-passed : answer ≡ asked.Passed → pairAnswerOf (lookupPart tags first) (lookupPart tags second) ≡ pairAtAnswerOf tags first second
+    unfolding pairAnswerOf pairAtAnswerOf pairAtQuestions
+    pair-at-passed p =
+        let found = places-found (sym p ∙ e) in
+        rw (found .0, found .1) (asked-passed (placeQuestions tags first second) _ Refused _ answer e p)
 
   pub pair-at-asked : length tags % tagLength ≡ 0 → pairAtAnswerOf tags first second ≡ afterAsked (askedOf (positionQuestions first second (tagCount tags))) Refused (pairAnswerOf (tagPart tags first) (tagPart tags second))
-  unfolding pairAtAnswerOf pairAtQuestions pairAnswerOf tagFileQuestion firstNo question
+  unfolding pairAtAnswerOf pairAtQuestions placeQuestions pairAnswerOf tagFileQuestion firstNo question
   pair-at-asked whole =
       rw (eq-eqb (length tags % tagLength) 0 whole)
       (first-append (positionQuestions first second (tagCount tags)) (pairQuestions (tagPart tags first) (tagPart tags second)) Refused _

@@ -16,7 +16,7 @@ use Rattle.tag.specs.declared.writer.WriteAnswer.the-variants as write
 use Rattle.tag.specs.Reading.{readQuestions}
 use Rattle.tag.specs.Writing.{writeQuestions, writeAnswerOf}
 use Rattle.tag.specs.TagFile.{tagFile, tagCount, tagPart, tagFileQuestion, lookupQuestions, lookupAnswerOf, partAt, lookupPart}
-use Rattle.tag.specs.Pairing.{agreeing, compareQuestions, pairQuestions, answerOf, pairAnswerOf, pairAtQuestions, pairAtAnswerOf}
+use Rattle.tag.specs.Pairing.{agreeing, compareQuestions, pairQuestions, answerOf, pairAnswerOf, placeQuestions, pairAtQuestions, pairAtAnswerOf}
 
 -- What a computation on tags opens.
 unfoldable pub meaning : Unit {0}
@@ -60,12 +60,12 @@ refusals = refl
 -- The same pairs from positions of the tag file: the answers, and no tag at the first position and at the second.
 pub plan-12-positions : pairAtAnswerOf tags 0 5 ∷ pairAtAnswerOf tags 5 6 ∷ pairAtAnswerOf tags 7 8 ∷ pairAtAnswerOf tags 0 7 ∷ []
     ≡ Handovers 3 ∷ NoChain ∷ Refused (refusalBy 7) ∷ Refused (refusalFrom 1 (refusalBy 7)) ∷ []
-unfolding meaning tags pairAtQuestions pairAtAnswerOf
+unfolding meaning tags placeQuestions pairAtQuestions pairAtAnswerOf
 plan-12-positions = refl
 
 -- One byte is no tag file, before there is no tag at a position; and a table without room comes before a field of 2,048.
 pub file-first : pairAtAnswerOf (0 ∷ []) 0 0 ≡ Refused (refusalBy 9)
-unfolding meaning pairAtQuestions pairAtAnswerOf
+unfolding meaning placeQuestions pairAtQuestions pairAtAnswerOf
 file-first = refl
 
 pub length-first : lookupAnswerOf (0 ∷ []) 0 ≡ lookup.Refused (refusalBy 9)

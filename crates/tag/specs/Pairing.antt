@@ -1,7 +1,7 @@
 -- Paper 01: "From two tags the answer is one of: a number of handovers; no chain; a refusal." The rule itself, on numbers, is
 -- `outcome` of interval_graph.
--- Vocabulary: agreeing, compareQuestions, pairQuestions, answerOf, comparedOf, pairAnswerOf, pairAtQuestions,
--- pairAtAnswerOf.
+-- Vocabulary: agreeing, compareQuestions, pairQuestions, answerOf, comparedOf, pairAnswerOf, placeQuestions,
+-- pairAtQuestions, pairAtAnswerOf.
 use Prim.Native.Nat.{ℕ}
 use mathlib.Core.Bool.{Bool, true, cond, _&&_}
 use mathlib.Core.List.{List, [], _∷_, _++_}
@@ -45,10 +45,11 @@ pairAnswerOf first second =
 
 -- The same for two positions of a tag file: 9 of the file, 7 of the first position and of the second, and then what is asked of the
 -- two tags found there.
+unfoldable pub placeQuestions : List ℕ → (first second : ℕ) → List Question
+placeQuestions tags first second = tagFileQuestion tags ∷ positionQuestions first second (tagCount tags)
+
 unfoldable pub pairAtQuestions : List ℕ → (first second : ℕ) → List Question
-pairAtQuestions tags first second =
-    tagFileQuestion tags
-    ∷ (positionQuestions first second (tagCount tags) ++ pairQuestions (tagPart tags first) (tagPart tags second))
+pairAtQuestions tags first second = placeQuestions tags first second ++ pairQuestions (tagPart tags first) (tagPart tags second)
 
 unfoldable pub pairAtAnswerOf : List ℕ → (first second : ℕ) → PairAnswer
 pairAtAnswerOf tags first second =

@@ -6,6 +6,7 @@ mod tag_file;
 mod writer;
 
 pub use pairs::PairAnswer;
+pub use pairs::ask_places;
 pub use pairs::pair;
 pub use pairs::pair_at;
 pub use reader::Tag;

@@ -1,7 +1,7 @@
 // The answer from two tags alone: how many handovers lie between their windows.
 use crate::reader::Tag;
 use crate::reader::TagRead;
-use crate::tag_file::part;
+use crate::tag_file::lookup;
 use wire::Asked;
 use wire::Refusal;
 ghost use mathlib.Core.Path.{_≡_};
@@ -9,8 +9,9 @@ ghost use mathlib.Core.Bool.{true};
 ghost use Prim.Native.Nat.{_≤_};
 ghost use Rattle.interval_graph.specs.Numbers.{comesFirst};
 ghost use Rattle.interval_graph.specs.Numbers as rule;
+ghost use Rattle.wire.specs.Question.{askedOf};
 ghost use Rattle.tag.specs.Fields.{numbers, withinLimit, fieldLimit};
-ghost use Rattle.tag.specs.Pairing.{agreeing, comparedOf, pairAnswerOf, pairAtAnswerOf};
+ghost use Rattle.tag.specs.Pairing.{agreeing, comparedOf, pairAnswerOf, placeQuestions, pairAtAnswerOf};
 
 pub enum PairAnswer {
     Handovers(u16),
@@ -115,16 +116,23 @@ pub fn pair(first: &[u8], second: &[u8]) -> PairAnswer
     compare(a, b)
 }
 
+// Question 9 of a tag file, and 7 of two positions in it.
+pub fn ask_places(tags: &[u8], first: usize, second: usize) -> Asked
+    ensures { λ r. ⌜ r ≡ askedOf (placeQuestions (now (tags .entry)) first second) ⌝ }
+{
+    if tags.len() % Tag::LENGTH != 0 {
+        return Asked::Refused(Refusal::by(9));
+    }
+    wire::ask_positions(first, second, tags.len() / Tag::LENGTH)
+}
+
 // The answer from the tags at two positions of a tag file.
 pub fn pair_at(tags: &[u8], first: usize, second: usize) -> PairAnswer
     ensures { λ r. ⌜ r ≡ pairAtAnswerOf (now (tags .entry)) first second ⌝ }
 {
-    if tags.len() % Tag::LENGTH != 0 {
-        return PairAnswer::Refused(Refusal::by(9));
-    }
-    let asked = wire::ask_positions(first, second, tags.len() / Tag::LENGTH);
+    let asked = ask_places(tags, first, second);
     if let Asked::Refused(refusal) = asked {
         return PairAnswer::Refused(refusal);
     }
-    pair(part(tags, first), part(tags, second))
+    pair(lookup(tags, first), lookup(tags, second))
 }

@@ -27,7 +27,7 @@ pub fn lookup_refusal(tags: &[u8], at: usize) -> LookupAnswer
 }
 
 // The ten bytes of the tag at a position that the file has.
-pub(crate) fn part(tags: &[u8], at: usize) -> &[u8]
+fn part(tags: &[u8], at: usize) -> &[u8]
     requires { ⌜ tagLength * at + tagLength ≤ length (now tags) ⌝ }
     ensures { λ r. ⌜ now r ≡ tagPart (now (tags .entry)) at ⌝ }
 {
