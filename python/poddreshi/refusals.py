@@ -45,7 +45,7 @@ QUESTIONS: Dict[int, Question] = {
     11: Question("Have both tags one plan number?", "the first tag is of plan {plan} and the second of plan {other_plan}"),
     12: Question(
         "Do two tags of equal component and equal rank agree in all fields?",
-        "the two tags have component {component} and rank {rank} alike and differ in other fields, so they are not both of one plan",
+        "the two tags have component {component} and rank {rank} alike and differ elsewhere, so they are not both of one plan",
     ),
 }
 

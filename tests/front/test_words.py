@@ -60,7 +60,7 @@ class Words(Case):
             "0c000008010003000200": "10: the second tag has component 2,048; each is at most 2,047",
             "0c000000000803000a10": "10: the second tag has depth 2,048 and rank of the last 4,106; each is at most 2,047",
             "0d000000000005000400": "11: the first tag is of plan 12 and the second of plan 13",
-            "0c000000000005000300": "12: the two tags have component 0 and rank 5 alike and differ in other fields, "
+            "0c000000000005000300": "12: the two tags have component 0 and rank 5 alike and differ elsewhere, "
             "so they are not both of one plan",
         }.items():
             self.refused(words, "count", tag, "-", stdin=bytes.fromhex(other))

@@ -5,11 +5,12 @@
 use Prim.Native.Nat.{ℕ, _/_, _%_, _≤_, _<_}
 use mathlib.Core.Bool.{true, false}
 use mathlib.Core.Path.{_≡_, refl, sym, ap, _∙_}
+use mathlib.Core.Logic.{⊎-elim}
 use mathlib.Core.List.{List, _++_, List·Memᴰ·head, List·Memᴰ·tail}
 use native.Mathlib.Omega.{arith}
 use lib.ListN.{length}
 use borrow.Author.Tests.{eq-eqb, ne-eqb, eqb-true, ltb-true}
-use Rattle.sequences.proofs.Tests.{eqb-symmetric}
+use Rattle.sequences.proofs.Tests.{eqb-symmetric, truth}
 use Rattle.interval_graph.specs.Numbers.{Numbers, Outcome, apart, no-chain, equal, comesFirst, between, outcome}
 use Rattle.interval_graph.proofs.Outcome.{equal-refl, equal-symmetric, outcome-equal, outcome-components, outcome-first, outcome-second, outcome-symmetric, outcome-most}
 use Rattle.wire.specs.declared.Refusal.{Refusal}
@@ -17,6 +18,7 @@ use Rattle.wire.specs.declared.Asked.{Asked}
 use Rattle.wire.specs.declared.Asked.the-variants as asked
 use Rattle.wire.specs.Question.{refusalBy, refusalFrom, question, from, firstNo, askedOf, positionQuestion, positionQuestions}
 use Rattle.wire.proofs.Question.{first-append, first-from, answer-accepted, afterAsked, asked-first, asked-refused, asked-passed, first-all, all-member, all-from, append-left, append-right, passed-within}
+use lib.Dec.{eqb}
 use Rattle.tag.specs.declared.reader.Tag.{Tag}
 use Rattle.tag.specs.declared.reader.TagRead.the-variants as read
 use Rattle.tag.specs.declared.pairs.PairAnswer.{PairAnswer}
@@ -67,52 +69,58 @@ module _ (u v : Numbers) where
   unfolding comparedOf compareQuestions from firstNo question
   compared-11 other = rw (ne-eqb _ _ other)
 
-  -- Tags of one component and rank that differ elsewhere are refused by 12.
-  pub compared-12 : u .plan ≡ v .plan → agreeing u v ≡ false → Refused (refusalFrom 1 (refusalBy 12)) ≡ comparedOf u v
-  unfolding comparedOf compareQuestions from firstNo question
-  compared-12 one t = rw (eq-eqb _ _ one, t)
-
-  -- Else the rule answers.
+  -- Past question 11 the answer is by question 12 and then by the rule.
   pub compared-rule : u .plan ≡ v .plan → agreeing u v ≡ true → answerOf (outcome u v) ≡ comparedOf u v
   unfolding comparedOf compareQuestions from firstNo question
   compared-rule one t = rw (eq-eqb _ _ one, t)
 
-  -- Where both questions are answered "yes", the rule, case by case.
-  module _ (one : u .plan ≡ v .plan) (agree : agreeing u v ≡ true) where
-    -- "Equal tags give 0"
-    pub compared-equal : equal u v ≡ true → Handovers 0 ≡ comparedOf u v
-    unfolding answerOf
-    compared-equal s = sym (ap answerOf (outcome-equal u v s)) ∙ compared-rule one agree
+  -- Equal tags have one component and one rank.
+  unequal-component : (u .component ≡ v .component → ⊥) → equal u v ≡ false
+  unfolding equal
+  unequal-component other =
+      rw (ne-eqb _ _ other) (⊎-elim (λ t. rw t) (λ t. rw t) (truth (eqb (u .plan) (v .plan))))
 
-    -- "different components no chain"
-    pub compared-components : equal u v ≡ false → (u .component ≡ v .component → ⊥) → NoChain ≡ comparedOf u v
-    unfolding answerOf
-    compared-components s other = sym (ap answerOf (outcome-components u v s other)) ∙ compared-rule one agree
+  unequal-rank : (u .rank ≡ v .rank → ⊥) → equal u v ≡ false
+  unfolding equal
+  unequal-rank other =
+      rw (ne-eqb _ _ other) (⊎-elim (λ t. rw t (⊎-elim (λ s. rw s (⊎-elim (λ r. rw r) (λ r. rw r) (truth (eqb (u .depth) (v .depth))))) (λ s. rw s)
+      (truth (eqb (u .component) (v .component))))) (λ t. rw t) (truth (eqb (u .plan) (v .plan))))
 
-    -- The count with u as the tag that comes first.
-    pub compared-first : equal u v ≡ false → u .component ≡ v .component → comesFirst u v ≡ true → Handovers (between u v) ≡ comparedOf u v
-    unfolding answerOf
-    compared-first s same f = sym (ap answerOf (outcome-first u v s same f)) ∙ compared-rule one agree
+  module _ (one : u .plan ≡ v .plan) where
+    -- "different components no chain": question 12 is answered "yes" there.
+    pub compared-components : (u .component ≡ v .component → ⊥) → NoChain ≡ comparedOf u v
+    unfolding answerOf agreeing
+    compared-components other =
+        sym (ap answerOf (outcome-components u v (unequal-component other) other)) ∙ compared-rule one (rw (ne-eqb _ _ other))
 
-    -- The count with v as the tag that comes first.
-    pub compared-second : equal u v ≡ false → u .component ≡ v .component → comesFirst u v ≡ false → Handovers (between v u) ≡ comparedOf u v
-    unfolding answerOf
-    compared-second s same f = sym (ap answerOf (outcome-second u v s same f)) ∙ compared-rule one agree
+    module _ (same : u .component ≡ v .component) where
+      -- In one component and with one rank it asks whether the tags are equal.
+      pub agreeing-equal : u .rank ≡ v .rank → agreeing u v ≡ equal u v
+      unfolding agreeing
+      agreeing-equal r = rw (eq-eqb _ _ same, eq-eqb _ _ r)
 
-  -- Question 12 is answered "yes" where the components differ.
-  pub agreeing-components : (u .component ≡ v .component → ⊥) → true ≡ agreeing u v
-  unfolding agreeing
-  agreeing-components other = rw (ne-eqb _ _ other)
+      pub compared-12 : u .rank ≡ v .rank → equal u v ≡ false → Refused (refusalFrom 1 (refusalBy 12)) ≡ comparedOf u v
+      unfolding comparedOf compareQuestions from firstNo question
+      compared-12 r t = rw (eq-eqb _ _ one, agreeing-equal r, t)
 
-  -- So it is where the ranks do.
-  pub agreeing-ranks : u .component ≡ v .component → (u .rank ≡ v .rank → ⊥) → true ≡ agreeing u v
-  unfolding agreeing
-  agreeing-ranks one other = rw (eq-eqb _ _ one, ne-eqb _ _ other)
+      -- "Equal tags give 0"
+      pub compared-equal : u .rank ≡ v .rank → equal u v ≡ true → Handovers 0 ≡ comparedOf u v
+      unfolding answerOf
+      compared-equal r t = sym (ap answerOf (outcome-equal u v t)) ∙ compared-rule one (agreeing-equal r ∙ t)
 
-  -- Else it asks whether the tags are equal.
-  pub agreeing-equal : u .component ≡ v .component → u .rank ≡ v .rank → equal u v ≡ agreeing u v
-  unfolding agreeing
-  agreeing-equal c r = rw (eq-eqb _ _ c, eq-eqb _ _ r)
+      -- With two ranks it is answered "yes", and the tag that comes first is u, or it is v.
+      module _ (other : u .rank ≡ v .rank → ⊥) where
+        agreeing-ranks : agreeing u v ≡ true
+        unfolding agreeing
+        agreeing-ranks = rw (eq-eqb _ _ same, ne-eqb _ _ other)
+
+        pub compared-first : comesFirst u v ≡ true → Handovers (between u v) ≡ comparedOf u v
+        unfolding answerOf
+        compared-first f = sym (ap answerOf (outcome-first u v (unequal-rank other) same f)) ∙ compared-rule one agreeing-ranks
+
+        pub compared-second : comesFirst u v ≡ false → Handovers (between v u) ≡ comparedOf u v
+        unfolding answerOf
+        compared-second f = sym (ap answerOf (outcome-second u v (unequal-rank other) same f)) ∙ compared-rule one agreeing-ranks
 
 -- Question 12 does not depend on the order of the tags.
 pub agreeing-symmetric : (u v : Numbers) → agreeing u v ≡ agreeing v u
@@ -141,11 +149,9 @@ pair-tagFile f n u v hu hv wu wv = rw (tagFile-lookup f n u hu, tagFile-lookup f
 
 -- A tag that is read is 0 handovers from itself.
 pub pair-itself : (bytes : List ℕ) (t : Tag) → readAnswerOf bytes ≡ read.Valid t → pairAnswerOf bytes bytes ≡ Handovers 0
-unfolding answerOf
 pair-itself bytes t e =
     pair-valid bytes bytes t t e e
-    ∙ (sym (compared-rule (numbers t) (numbers t) refl (sym (agreeing-equal (numbers t) (numbers t) refl refl) ∙ equal-refl (numbers t)))
-    ∙ ap answerOf (outcome-equal (numbers t) (numbers t) (equal-refl (numbers t))))
+    ∙ sym (compared-equal (numbers t) (numbers t) refl refl refl (equal-refl (numbers t)))
 
 -- A number of handovers is what the rule says of two tags within the limit.
 pub record Counted (u v : Numbers) (k : ℕ) : Type 0 where

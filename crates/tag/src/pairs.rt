@@ -11,7 +11,7 @@ ghost use Rattle.interval_graph.specs.Numbers.{comesFirst};
 ghost use Rattle.interval_graph.specs.Numbers as rule;
 ghost use Rattle.wire.specs.Question.{askedOf};
 ghost use Rattle.tag.specs.Fields.{numbers, withinLimit, fieldLimit};
-ghost use Rattle.tag.specs.Pairing.{agreeing, comparedOf, pairAnswerOf, placeQuestions, pairAtAnswerOf};
+ghost use Rattle.tag.specs.Pairing.{comparedOf, pairAnswerOf, placeQuestions, pairAtAnswerOf};
 
 pub enum PairAnswer {
     Handovers(u16),
@@ -36,19 +36,6 @@ fn same(u: Tag, v: Tag) -> bool
         return false;
     }
     u.last == v.last
-}
-
-// Question 12: in one component a rank belongs to one window.
-fn agree(u: Tag, v: Tag) -> bool
-    ensures { λ r. ⌜ r ≡ agreeing (numbers u) (numbers v) ⌝ }
-{
-    if u.component != v.component {
-        return true;
-    }
-    if u.rank != v.rank {
-        return true;
-    }
-    same(u, v)
 }
 
 // Whether u is the tag with smaller depth, or smaller rank at equal depth.
@@ -77,7 +64,22 @@ fn between(u: Tag, v: Tag) -> u16
     levels + 1
 }
 
-// Questions 11 and 12, then the rule. "No chain" is said only once both are answered.
+// The answer of two tags of one plan and component that have one rank. In a component a rank belongs to one window (question 12),
+// and a window is 0 handovers from itself.
+fn one_window(a: Tag, b: Tag) -> PairAnswer
+    requires { ⌜ a .plan ≡ b .plan ⌝ }
+    requires { ⌜ a .component ≡ b .component ⌝ }
+    requires { ⌜ a .rank ≡ b .rank ⌝ }
+    ensures { λ r. ⌜ r ≡ comparedOf (numbers a) (numbers b) ⌝ }
+{
+    if !same(a, b) {
+        return PairAnswer::Refused(Refusal::by(12).from(1));
+    }
+    PairAnswer::Handovers(0)
+}
+
+// Questions 11 and 12, then the rule. Tags of two components pass question 12, and so do those of two ranks, so it is asked of the
+// others alone.
 fn compare(a: Tag, b: Tag) -> PairAnswer
     requires { ⌜ withinLimit (numbers a) ≡ true ⌝ }
     requires { ⌜ withinLimit (numbers b) ≡ true ⌝ }
@@ -86,14 +88,11 @@ fn compare(a: Tag, b: Tag) -> PairAnswer
     if a.plan != b.plan {
         return PairAnswer::Refused(Refusal::by(11).from(1));
     }
-    if !agree(a, b) {
-        return PairAnswer::Refused(Refusal::by(12).from(1));
-    }
-    if same(a, b) {
-        return PairAnswer::Handovers(0);
-    }
     if a.component != b.component {
         return PairAnswer::NoChain;
+    }
+    if a.rank == b.rank {
+        return one_window(a, b);
     }
     if comes_first(a, b) {
         return PairAnswer::Handovers(between(a, b));
