@@ -130,8 +130,11 @@ class Interface(unittest.TestCase):
             self.assertTrue(hasattr(poddreshi, name), name)
 
     def test_version_in_one_place(self):
-        self.assertIn(f'#define PODDRESHI_VERSION "{poddreshi.__version__}"', self.HEADER)
+        stated = re.findall(r'^#define PODDRESHI_VERSION "(.*)"$', self.HEADER, re.M)
+        self.assertEqual(stated, [poddreshi.__version__])
         self.assertIn(f"## {poddreshi.__version__}", (ROOT / "CHANGELOG.md").read_text(encoding="utf-8"))
+        others = [ROOT / "pyproject.toml", ROOT / "poddreshi", *ROOT.glob("python/**/*.py"), *ROOT.glob("include/*.rs")]
+        self.assertEqual([path for path in others if poddreshi.__version__ in path.read_text(encoding="utf-8")], [])
 
     def without_library(self, package, **environment) -> str:
         """What the package says where its library is not there."""
