@@ -53,13 +53,13 @@ list-is (x ∷ l) (y ∷ m) t =
 
 found : Case → Outcome
 found c =
-    outcome (numbersOf (windowCount (c .file)) (overlaps (c .file)) 0 (c .first)) (numbersOf (windowCount (c .file)) (overlaps (c .file)) 0 (c .second))
+    outcome (numbersOf (windowCount (c .0)) (overlaps (c .0)) 0 (c .2)) (numbersOf (windowCount (c .0)) (overlaps (c .0)) 0 (c .3))
 
 test : Case → Bool
 test c =
-    allYes (planQuestions (c .file)) && (eqb (componentCount (c .file)) (c .components) && (ltb (c .first) (windowCount (c .file))
-    && (ltb (c .second) (windowCount (c .file)) && (sameOutcome (found c) (c .expected)
-    && (sameList (c .chain) [] || sameList (chainBetween (c .file) (c .first) (c .second)) (c .chain))))))
+    allYes (planQuestions (c .0)) && (eqb (componentCount (c .0)) (c .1) && (ltb (c .2) (windowCount (c .0))
+    && (ltb (c .3) (windowCount (c .0)) && (sameOutcome (found c) (c .4)
+    && (sameList (c .5) [] || sameList (chainBetween (c .0) (c .2) (c .3)) (c .5))))))
 
 tests : List Case → Bool
 tests [] = true
@@ -70,30 +70,30 @@ case-says : (file : List ℕ) → AcceptedPlan file → (u v : ℕ) → u < wind
 case-says file ok u v hu hv (apart k) o = outcome-apart (interval-order file ok) u v 0 k hu hv .0 o
 case-says file ok u v hu hv no-chain o = outcome-no-chain (interval-order file ok) u v 0 hu hv .0 o
 
-test-holds : (c : Case) → test c ≡ true → CaseHolds c
+test-holds : (c : Case) → test c ≡ true → CaseHolds (c .0) (c .1) (c .2) (c .3) (c .4) (c .5)
 unfolding test found
 test-holds c t =
-    let t5 = sameList (c .chain) [] || sameList (chainBetween (c .file) (c .first) (c .second)) (c .chain) in
-    let t4 = sameOutcome (found c) (c .expected) && t5 in
-    let t3 = ltb (c .second) (windowCount (c .file)) && t4 in
-    let t2 = ltb (c .first) (windowCount (c .file)) && t3 in
-    let t1 = eqb (componentCount (c .file)) (c .components) && t2 in
-    let ok = and-left (allYes (planQuestions (c .file))) t1 t in
-    let h1 = and-right (allYes (planQuestions (c .file))) t1 t in
-    let h2 = and-right (eqb (componentCount (c .file)) (c .components)) t2 h1 in
-    let h3 = and-right (ltb (c .first) (windowCount (c .file))) t3 h2 in
-    let h4 = and-right (ltb (c .second) (windowCount (c .file))) t4 h3 in
-    let hu = ltb-true _ _ (and-left (ltb (c .first) (windowCount (c .file))) t3 h2) in
-    let hv = ltb-true _ _ (and-left (ltb (c .second) (windowCount (c .file))) t4 h3) in
+    let t5 = sameList (c .5) [] || sameList (chainBetween (c .0) (c .2) (c .3)) (c .5) in
+    let t4 = sameOutcome (found c) (c .4) && t5 in
+    let t3 = ltb (c .3) (windowCount (c .0)) && t4 in
+    let t2 = ltb (c .2) (windowCount (c .0)) && t3 in
+    let t1 = eqb (componentCount (c .0)) (c .1) && t2 in
+    let ok = and-left (allYes (planQuestions (c .0))) t1 t in
+    let h1 = and-right (allYes (planQuestions (c .0))) t1 t in
+    let h2 = and-right (eqb (componentCount (c .0)) (c .1)) t2 h1 in
+    let h3 = and-right (ltb (c .2) (windowCount (c .0))) t3 h2 in
+    let h4 = and-right (ltb (c .3) (windowCount (c .0))) t4 h3 in
+    let hu = ltb-true _ _ (and-left (ltb (c .2) (windowCount (c .0))) t3 h2) in
+    let hv = ltb-true _ _ (and-left (ltb (c .3) (windowCount (c .0))) t4 h3) in
     record {
       accepted = ok;
-      components = eqb-true _ _ (and-left (eqb (componentCount (c .file)) (c .components)) t2 h1);
+      counted = eqb-true _ _ (and-left (eqb (componentCount (c .0)) (c .1)) t2 h1);
       first-window = hu;
       second-window = hv;
-      count = case-says (c .file) ok (c .first) (c .second) hu hv (c .expected) (outcome-is (found c) (c .expected) (and-left (sameOutcome (found c) (c .expected)) t5 h4));
-      chain =
-          ⊎-elim (λ s. inl (list-is (c .chain) [] s)) (λ s. inr (list-is _ (c .chain) s))
-          (or-cases (sameList (c .chain) []) (sameList (chainBetween (c .file) (c .first) (c .second)) (c .chain)) (and-right (sameOutcome (found c) (c .expected)) t5 h4));
+      count = case-says (c .0) ok (c .2) (c .3) hu hv (c .4) (outcome-is (found c) (c .4) (and-left (sameOutcome (found c) (c .4)) t5 h4));
+      given =
+          ⊎-elim (λ s. inl (list-is (c .5) [] s)) (λ s. inr (list-is _ (c .5) s))
+          (or-cases (sameList (c .5) []) (sameList (chainBetween (c .0) (c .2) (c .3)) (c .5)) (and-right (sameOutcome (found c) (c .4)) t5 h4));
     }
 
 -- The eleven cases pass.
@@ -101,7 +101,7 @@ cases-pass : tests cases ≡ true
 unfolding definitions meaning allYes componentCount climb walk chainOf chainBetween plan12 touching overlapping cases tests test found sameOutcome sameList
 cases-pass = refl
 
-tests-hold : (l : List Case) → tests l ≡ true → (c : Case) → List·Memᴰ c l → CaseHolds c
+tests-hold : (l : List Case) → tests l ≡ true → (c : Case) → List·Memᴰ c l → CaseHolds (c .0) (c .1) (c .2) (c .3) (c .4) (c .5)
 unfolding tests
 tests-hold [] t c m = absurd (List·Memᴰ·not-nil m)
 tests-hold (d ∷ l) t c m =
@@ -114,16 +114,8 @@ cases-hold = tests-hold cases cases-pass
 
 -- Two windows (5, 5): the offsets are equal, the file's order counts, and they are one handover apart.
 abbrev equals : Case
-equals =
-    record {
-      file = fileOf 0 (record { offset = 5; length = 5 } ∷ record { offset = 5; length = 5 } ∷ []);
-      components = 1;
-      first = 0;
-      second = 1;
-      expected = apart 1;
-      chain = 1 ∷ 0 ∷ [];
-    }
+equals = (fileOf 0 (record { offset = 5; length = 5 } ∷ record { offset = 5; length = 5 } ∷ []), 1, 0, 1, apart 1, 1 ∷ 0 ∷ [])
 
-pub equal-offsets : CaseHolds equals
+pub equal-offsets : CaseHolds (equals .0) (equals .1) (equals .2) (equals .3) (equals .4) (equals .5)
 unfolding definitions meaning allYes componentCount climb walk chainOf chainBetween test found sameOutcome sameList
 equal-offsets = test-holds equals refl

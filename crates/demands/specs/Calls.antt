@@ -1,19 +1,14 @@
 -- Paper 01, "Calls on a plan": what it says of reach and of sameness, of what the calls answer for accepted plans.
 -- Vocabulary: ReachBounds, SameOverlap, EqualTags, SameAnswered.
 use Prim.Native.Nat.{ℕ, _<_, _≤_}
-use mathlib.Core.Path.{_≡_}
-use mathlib.Core.Logic.{_↔_}
-use mathlib.Core.List.{List}
+use mathlib.Core.{Path._≡_, Logic._↔_, List.List}
 use lib.ListN.{drop}
-use Rattle.interval_graph.specs.Chain.{LeastHandovers}
-use Rattle.interval_graph.specs.Tree.{component}
-use Rattle.plan.specs.File.{windowCount}
-use Rattle.plan.specs.Overlap.{overlaps}
-use Rattle.plan.specs.Validation.{AcceptedPlan}
-use Rattle.tree.specs.declared.answers.ReachAnswer.the-variants as ReachAnswer
+use Rattle.interval_graph.specs.{Chain.LeastHandovers, Tree.component}
+use Rattle.plan.specs.{File.windowCount, Overlap.overlaps, Validation.AcceptedPlan}
 use Rattle.tree.specs.Reach.{reachAnswerOf}
-use Rattle.path.specs.declared.answers.SameAnswer.the-variants as SameAnswer
+use Rattle.tree.specs.declared.answers.ReachAnswer.the-variants as ReachAnswer
 use Rattle.path.specs.Sameness.{sameAnswerOf}
+use Rattle.path.specs.declared.answers.SameAnswer.the-variants as SameAnswer
 use Rattle.demands.specs.EndToEnd.{tagAt}
 
 -- "no two windows of the component are more handovers apart than that"

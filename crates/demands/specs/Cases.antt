@@ -2,15 +2,9 @@
 -- definitions".
 -- Vocabulary: plan12, touching, overlapping, Case, cases, Says, CaseHolds, CasesHold.
 use Prim.Native.Nat.{ℕ, _<_}
-use mathlib.Core.Path.{_≡_}
-use mathlib.Core.Logic.{_⊎_}
-use mathlib.Core.List.{List, [], _∷_, List·Memᴰ}
-use Rattle.interval_graph.specs.Chain.{Joined, LeastHandovers}
-use Rattle.interval_graph.specs.Numbers.{Outcome, apart, no-chain}
-use Rattle.plan.specs.declared.windows.Window.{Window}
-use Rattle.plan.specs.File.{windowCount, fileOf}
-use Rattle.plan.specs.Overlap.{overlaps}
-use Rattle.plan.specs.Validation.{AcceptedPlan}
+use mathlib.Core.{Path._≡_, Logic._⊎_, List.List, List.[], List._∷_, List.List·Memᴰ}
+use Rattle.interval_graph.specs.{Chain.Joined, Chain.LeastHandovers, Numbers.Outcome, Numbers.apart, Numbers.no-chain}
+use Rattle.plan.specs.{declared.windows.Window.Window, File.windowCount, File.fileOf, Overlap.overlaps, Validation.AcceptedPlan}
 use Rattle.tree.specs.Tables.{componentCount}
 use Rattle.path.specs.Chain.{chainBetween}
 
@@ -28,33 +22,24 @@ touching = fileOf 0 (span 0 10 ∷ span 10 5 ∷ [])
 unfoldable pub overlapping : List ℕ
 overlapping = fileOf 0 (span 0 11 ∷ span 10 5 ∷ [])
 
--- Two windows of a file, which has so many components: the least number of handovers or that no chain joins them, and the chain
--- where the paper gives it (empty where it does not).
-pub record Case : Type 0 where
-  pub file : List ℕ
-  pub components : ℕ
-  pub first : ℕ
-  pub second : ℕ
-  pub expected : Outcome
-  pub chain : List ℕ
-
-abbrev case : (file : List ℕ) (components first second : ℕ) → Outcome → (chain : List ℕ) → Case
-case file components first second expected chain =
-    record { file = file; components = components; first = first; second = second; expected = expected; chain = chain }
+-- A row: a file, how many components it has, two of its windows, what is said of them, and the chain where the paper gives it (empty
+-- where it does not).
+abbrev pub Case : Type 0
+Case = List ℕ × ℕ × ℕ × ℕ × Outcome × List ℕ
 
 unfoldable pub cases : List Case
 cases =
-    case plan12 2 0 5 (apart 3) (5 ∷ 4 ∷ 2 ∷ 0 ∷ [])
-    ∷ case plan12 2 1 5 (apart 3) []
-    ∷ case plan12 2 3 5 (apart 3) (5 ∷ 4 ∷ 2 ∷ 3 ∷ [])
-    ∷ case plan12 2 2 3 (apart 1) []
-    ∷ case plan12 2 1 3 (apart 2) (3 ∷ 0 ∷ 1 ∷ [])
-    ∷ case plan12 2 3 4 (apart 2) []
-    ∷ case plan12 2 4 5 (apart 1) []
-    ∷ case plan12 2 5 6 no-chain []
-    ∷ case plan12 2 6 6 (apart 0) []
-    ∷ case touching 2 0 1 no-chain []
-    ∷ case overlapping 1 0 1 (apart 1) []
+    (plan12, 2, 0, 5, apart 3, 5 ∷ 4 ∷ 2 ∷ 0 ∷ [])
+    ∷ (plan12, 2, 1, 5, apart 3, [])
+    ∷ (plan12, 2, 3, 5, apart 3, 5 ∷ 4 ∷ 2 ∷ 3 ∷ [])
+    ∷ (plan12, 2, 2, 3, apart 1, [])
+    ∷ (plan12, 2, 1, 3, apart 2, 3 ∷ 0 ∷ 1 ∷ [])
+    ∷ (plan12, 2, 3, 4, apart 2, [])
+    ∷ (plan12, 2, 4, 5, apart 1, [])
+    ∷ (plan12, 2, 5, 6, no-chain, [])
+    ∷ (plan12, 2, 6, 6, apart 0, [])
+    ∷ (touching, 2, 0, 1, no-chain, [])
+    ∷ (overlapping, 1, 0, 1, apart 1, [])
     ∷ []
 
 -- What is said of two windows: the least number, or that no chain joins them.
@@ -62,13 +47,13 @@ abbrev pub Says : List ℕ → ℕ → ℕ → Outcome → Type 0
 Says file u v (apart k) = LeastHandovers (windowCount file) (overlaps file) u v k
 Says file u v no-chain = Joined (windowCount file) (overlaps file) u v → ⊥
 
-pub record CaseHolds (c : Case) : Type 0 where
-  pub accepted : AcceptedPlan (c .file)
-  pub components : componentCount (c .file) ≡ c .components
-  pub first-window : c .first < windowCount (c .file)
-  pub second-window : c .second < windowCount (c .file)
-  pub count : Says (c .file) (c .first) (c .second) (c .expected)
-  pub chain : (c .chain ≡ []) ⊎ (chainBetween (c .file) (c .first) (c .second) ≡ c .chain)
+pub record CaseHolds (file : List ℕ) (components u v : ℕ) (expected : Outcome) (chain : List ℕ) : Type 0 where
+  pub accepted : AcceptedPlan file
+  pub counted : componentCount file ≡ components
+  pub first-window : u < windowCount file
+  pub second-window : v < windowCount file
+  pub count : Says file u v expected
+  pub given : (chain ≡ []) ⊎ (chainBetween file u v ≡ chain)
 
 abbrev pub CasesHold : Type 0
-CasesHold = (c : Case) → List·Memᴰ c cases → CaseHolds c
+CasesHold = (c : Case) → List·Memᴰ c cases → CaseHolds (c .0) (c .1) (c .2) (c .3) (c .4) (c .5)

@@ -3,24 +3,16 @@
 -- window that any shortest chain has there; and "no chain" is said exactly when none joins them, from tags and plan alike.
 -- Vocabulary: Answered, tagAt, Demand3, pairFromPlan.
 use Prim.Native.Nat.{ℕ, suc, _<_, max}
-use mathlib.Core.Path.{_≡_}
-use mathlib.Core.Logic.{_↔_}
-use mathlib.Core.List.{List, _++_}
+use mathlib.Core.{Path._≡_, Logic._↔_, List.List, List._++_}
 use lib.ListN.{length, take}
 use Rattle.interval_graph.specs.Chain.{firstEntry, handovers, Joined, LeastHandovers, EarliestShortest}
-use Rattle.wire.specs.declared.Refusal.{Refusal}
-use Rattle.wire.specs.Question.{firstNo, positionQuestions}
-use Rattle.plan.specs.File.{windowCount}
-use Rattle.plan.specs.Overlap.{overlaps}
-use Rattle.plan.specs.Validation.{planQuestions, AcceptedPlan}
-use Rattle.tag.specs.declared.pairs.PairAnswer.{PairAnswer}
+use Rattle.wire.specs.{declared.Refusal.Refusal, Question.firstNo, Question.positionQuestions}
+use Rattle.plan.specs.{File.windowCount, Overlap.overlaps, Validation.planQuestions, Validation.AcceptedPlan}
+use Rattle.tag.specs.{declared.pairs.PairAnswer.PairAnswer, TagFile.tagFile, TagFile.lookupPart, Pairing.pairAnswerOf}
 use Rattle.tag.specs.declared.pairs.PairAnswer.the-variants as PairAnswer
-use Rattle.tag.specs.TagFile.{tagFile, lookupPart}
-use Rattle.tag.specs.Pairing.{pairAnswerOf}
 use Rattle.tree.specs.Tables.{numbersAt}
-use Rattle.path.specs.declared.answers.ChainAnswer.{ChainAnswer}
+use Rattle.path.specs.{declared.answers.ChainAnswer.ChainAnswer, Chain.chainBetween, Chain.chainAnswerOf, Chain.afterChain}
 use Rattle.path.specs.declared.answers.ChainAnswer.the-variants as ChainAnswer
-use Rattle.path.specs.Chain.{chainBetween, chainAnswerOf, afterChain}
 
 -- What is answered of the windows u and v of a file: the answer from their tags, the answer of chain, and its table afterwards.
 pub record Answered (file : List ℕ) (u v : ℕ) (pair : PairAnswer) (chain : ChainAnswer) (out : List ℕ) : Type 0 where

@@ -3,35 +3,29 @@
 -- is what its proof says: no public call has a `requires`, and a proved function ends.)
 -- Vocabulary: FirstNo, Refuses, Demand1.
 use Prim.Native.Nat.{ℕ}
-use mathlib.Core.Bool.{true, false}
-use mathlib.Core.Path.{_≡_}
-use mathlib.Core.Logic.{_↔_}
-use mathlib.Core.List.{List, [], _∷_}
+use mathlib.Core.{Bool.true, Bool.false, Path._≡_, Logic._↔_, List.List, List.[], List._∷_}
 use Rattle.interval_graph.specs.Numbers.{Numbers}
-use Rattle.wire.specs.declared.Refusal.{Refusal}
-use Rattle.wire.specs.Question.{Question}
-use Rattle.plan.specs.declared.questions.Validation.the-variants as Validation
+use Rattle.wire.specs.{declared.Refusal.Refusal, Question.Question}
 use Rattle.plan.specs.Validation.{planQuestions, validateAnswerOf}
+use Rattle.plan.specs.declared.questions.Validation.the-variants as Validation
+use Rattle.tag.specs.{Reading.readQuestions, Reading.readAnswerOf, Writing.writeQuestions, Writing.writeAnswerOf, Writing.afterWrite}
+use Rattle.tag.specs.TagFile.{lookupQuestions, lookupAnswerOf, lookupPart}
+use Rattle.tag.specs.Pairing.{pairQuestions, pairAnswerOf, pairAtQuestions, pairAtAnswerOf}
 use Rattle.tag.specs.declared.reader.TagRead.the-variants as TagRead
 use Rattle.tag.specs.declared.writer.WriteAnswer.the-variants as WriteAnswer
 use Rattle.tag.specs.declared.tag_file.LookupAnswer.the-variants as LookupAnswer
 use Rattle.tag.specs.declared.pairs.PairAnswer.the-variants as PairAnswer
-use Rattle.tag.specs.Reading.{readQuestions, readAnswerOf}
-use Rattle.tag.specs.Writing.{writeQuestions, writeAnswerOf, afterWrite}
-use Rattle.tag.specs.TagFile.{lookupQuestions, lookupAnswerOf, lookupPart}
-use Rattle.tag.specs.Pairing.{pairQuestions, pairAnswerOf, pairAtQuestions, pairAtAnswerOf}
-use Rattle.tree.specs.declared.answers.BuildAnswer.the-variants as BuildAnswer
-use Rattle.minutes.specs.declared.answers.TableAnswer.the-variants as TableAnswer
-use Rattle.tree.specs.declared.answers.ReachAnswer.the-variants as ReachAnswer
-use Rattle.tree.specs.Build.{buildQuestions, buildAnswerOf, tagsQuestions, tagsAnswerOf, afterBuild, afterTags}
 use Rattle.minutes.specs.SingleTable.{tableQuestions, tableAnswerOf, afterTable}
+use Rattle.minutes.specs.declared.answers.TableAnswer.the-variants as TableAnswer
+use Rattle.tree.specs.Build.{buildQuestions, buildAnswerOf, tagsQuestions, tagsAnswerOf, afterBuild, afterTags}
 use Rattle.tree.specs.Reach.{reachQuestions, reachAnswerOf}
+use Rattle.tree.specs.declared.answers.BuildAnswer.the-variants as BuildAnswer
+use Rattle.tree.specs.declared.answers.ReachAnswer.the-variants as ReachAnswer
+use Rattle.path.specs.{Chain.chainQuestions, Chain.chainAnswerOf, Chain.afterChain, Sameness.sameQuestions, Sameness.sameAnswerOf}
+use Rattle.path.specs.Neighbours.{neighboursQuestions, neighboursAnswerOf, afterNeighbours}
 use Rattle.path.specs.declared.answers.ChainAnswer.the-variants as ChainAnswer
 use Rattle.path.specs.declared.answers.NeighboursAnswer.the-variants as NeighboursAnswer
 use Rattle.path.specs.declared.answers.SameAnswer.the-variants as SameAnswer
-use Rattle.path.specs.Chain.{chainQuestions, chainAnswerOf, afterChain}
-use Rattle.path.specs.Neighbours.{neighboursQuestions, neighboursAnswerOf, afterNeighbours}
-use Rattle.path.specs.Sameness.{sameQuestions, sameAnswerOf}
 
 -- Of questions asked in order, the first that is answered "no" gives this refusal.
 pub data FirstNo : List Question → Refusal → Type 0 where
@@ -52,29 +46,23 @@ pub record Demand1 : Type 0 where
   pub tagging : (file : List ℕ) (room : ℕ) → Refuses (tagsQuestions file room) BuildAnswer.Refused (tagsAnswerOf file room)
   -- (this one is that of the parent table and of the last table)
   pub tabling : (file : List ℕ) (room : ℕ) → Refuses (tableQuestions file room) TableAnswer.Refused (tableAnswerOf file room)
-  pub reaching : (file : List ℕ) (at : ℕ) → Refuses (reachQuestions file at) ReachAnswer.Refused (reachAnswerOf file at)
-  pub chaining :
-      (file : List ℕ) (first second room : ℕ) →
-      Refuses (chainQuestions file first second room) ChainAnswer.Refused (chainAnswerOf file first second room)
+  pub reaching : (file : List ℕ) (v : ℕ) → Refuses (reachQuestions file v) ReachAnswer.Refused (reachAnswerOf file v)
+  pub chaining : (file : List ℕ) (u v room : ℕ) → Refuses (chainQuestions file u v room) ChainAnswer.Refused (chainAnswerOf file u v room)
   pub neighbouring :
-      (file : List ℕ) (at room : ℕ) →
-      Refuses (neighboursQuestions file at room) NeighboursAnswer.Refused (neighboursAnswerOf file at room)
+      (file : List ℕ) (v room : ℕ) → Refuses (neighboursQuestions file v room) NeighboursAnswer.Refused (neighboursAnswerOf file v room)
   pub comparing : (first second : List ℕ) → Refuses (sameQuestions first second) SameAnswer.Refused (sameAnswerOf first second)
   -- On tags:
   pub reading : (bytes : List ℕ) → Refuses (readQuestions bytes) TagRead.Refused (readAnswerOf bytes)
   pub writing : (n : Numbers) (out : List ℕ) → Refuses (writeQuestions n out) WriteAnswer.Refused (writeAnswerOf n out)
   pub looking-up : (tags : List ℕ) (at : ℕ) → Refuses (lookupQuestions tags at) LookupAnswer.Refused (lookupAnswerOf tags at)
   pub pairing : (first second : List ℕ) → Refuses (pairQuestions first second) PairAnswer.Refused (pairAnswerOf first second)
-  pub pairing-at :
-      (tags : List ℕ) (first second : ℕ) →
-      Refuses (pairAtQuestions tags first second) PairAnswer.Refused (pairAtAnswerOf tags first second)
+  pub pairing-at : (tags : List ℕ) (u v : ℕ) → Refuses (pairAtQuestions tags u v) PairAnswer.Refused (pairAtAnswerOf tags u v)
   -- A refusal leaves every lent table as it was.
   pub build-untouched : (r : Refusal) (f : ℕ → ℕ) (before : List ℕ) → afterBuild (BuildAnswer.Refused r) f before ≡ before
   pub tags-untouched : (r : Refusal) (f : ℕ → Numbers) (before : List ℕ) → afterTags (BuildAnswer.Refused r) f before ≡ before
   pub table-untouched : (r : Refusal) (f : ℕ → ℕ) (before : List ℕ) → afterTable (TableAnswer.Refused r) f before ≡ before
-  pub chain-untouched : (r : Refusal) (chain before : List ℕ) → afterChain (ChainAnswer.Refused r) chain before ≡ before
-  pub neighbours-untouched :
-      (r : Refusal) (neighbours before : List ℕ) → afterNeighbours (NeighboursAnswer.Refused r) neighbours before ≡ before
+  pub chain-untouched : (r : Refusal) (l before : List ℕ) → afterChain (ChainAnswer.Refused r) l before ≡ before
+  pub neighbours-untouched : (r : Refusal) (l before : List ℕ) → afterNeighbours (NeighboursAnswer.Refused r) l before ≡ before
   pub write-untouched : (r : Refusal) (n : Numbers) (before : List ℕ) → afterWrite (WriteAnswer.Refused r) n before ≡ before
   -- "A refused lookup hands back an empty part".
   pub lookup-empty : (tags : List ℕ) (at : ℕ) (r : Refusal) → lookupAnswerOf tags at ≡ LookupAnswer.Refused r → lookupPart tags at ≡ []

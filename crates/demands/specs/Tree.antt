@@ -1,47 +1,35 @@
 -- Demand 2: the tree and tags of an accepted plan are exactly paper 01's. A written tag reads back as the same five numbers, and ten
 -- bytes that read as a tag are written back the same. The tree is that of `interval_graph/specs`, of the overlap of `plan/specs`.
--- Vocabulary: Built, Demand2.
+-- Vocabulary: Leaves, Built, Demand2.
 use Prim.Native.Nat.{ℕ, _≤_, _<_, _*_}
-use mathlib.Core.Path.{_≡_}
-use mathlib.Core.List.{List, _++_}
+use mathlib.Core.{Path._≡_, List.List, List._++_}
 use lib.ListN.{length, getD, take, drop}
 use Rattle.sequences.specs.Table.{table, overwritten}
-use Rattle.interval_graph.specs.Tree.{parent, component, depth, rank, lastRank}
-use Rattle.interval_graph.specs.Numbers.{Numbers, numbersOf}
-use Rattle.plan.specs.File.{planNumber, windowCount}
-use Rattle.plan.specs.Overlap.{overlaps}
-use Rattle.plan.specs.Validation.{AcceptedPlan}
-use Rattle.tag.specs.declared.reader.Tag.{Tag}
+use Rattle.interval_graph.specs.{Tree.parent, Tree.component, Tree.depth, Tree.rank, Tree.lastRank, Numbers.Numbers, Numbers.numbersOf}
+use Rattle.plan.specs.{File.planNumber, File.windowCount, Overlap.overlaps, Validation.AcceptedPlan}
+use Rattle.tag.specs.{declared.reader.Tag.Tag, Fields.tagLength, Fields.numbers, Fields.tagWith, TagFile.tagFile}
+use Rattle.tag.specs.{Reading.readAnswerOf, Writing.writeAnswerOf, Writing.afterWrite}
 use Rattle.tag.specs.declared.reader.TagRead.the-variants as TagRead
 use Rattle.tag.specs.declared.writer.WriteAnswer.the-variants as WriteAnswer
-use Rattle.tag.specs.Fields.{tagLength, numbers, tagWith}
-use Rattle.tag.specs.Reading.{readAnswerOf}
-use Rattle.tag.specs.Writing.{writeAnswerOf, afterWrite}
-use Rattle.tag.specs.TagFile.{tagFile}
-use Rattle.tree.specs.declared.answers.BuildAnswer.{BuildAnswer}
-use Rattle.tree.specs.declared.answers.BuildAnswer.the-variants as BuildAnswer
 use Rattle.minutes.specs.Tables.{parentOf}
 use Rattle.tree.specs.Tables.{componentOf, depthOf, rankOf, lastRankOf, componentCount, numbersAt}
-use Rattle.tree.specs.Build.{buildAnswerOf, afterBuild, afterTags}
+use Rattle.tree.specs.{declared.answers.BuildAnswer.BuildAnswer, Build.buildAnswerOf, Build.afterBuild, Build.afterTags}
+use Rattle.tree.specs.declared.answers.BuildAnswer.the-variants as BuildAnswer
 use Rattle.demands.specs.EndToEnd.{tagAt}
 
--- What an answer of build leaves in the five tables and in the tag file, whatever was in them.
+-- What build leaves in a table, whatever was in it: the first n entries are those of a function, and what lies past them stays.
+abbrev pub Leaves : List ℕ → BuildAnswer → (written expected : ℕ → ℕ) → Type 0
+Leaves file answer written expected =
+    (before : List ℕ) → afterBuild answer written before ≡ overwritten before (table expected (windowCount file))
+
+-- The answer of build, the five tables and the tag file.
 pub record Built (file : List ℕ) (answer : BuildAnswer) : Type 0 where
   pub answered : answer ≡ BuildAnswer.Built (planNumber file) (windowCount file) (componentCount file)
-  pub parents :
-      (before : List ℕ) → afterBuild answer (parentOf file) before ≡ overwritten before (table (parent (overlaps file)) (windowCount file))
-  pub components :
-      (before : List ℕ) →
-      afterBuild answer (componentOf file) before ≡ overwritten before (table (component (overlaps file)) (windowCount file))
-  pub depths :
-      (before : List ℕ) → afterBuild answer (depthOf file) before ≡ overwritten before (table (depth (overlaps file)) (windowCount file))
-  pub ranks :
-      (before : List ℕ) →
-      afterBuild answer (rankOf file) before ≡ overwritten before (table (rank (windowCount file) (overlaps file)) (windowCount file))
-  pub last-ranks :
-      (before : List ℕ) →
-      afterBuild answer (lastRankOf file) before
-      ≡ overwritten before (table (lastRank (windowCount file) (overlaps file)) (windowCount file))
+  pub parents : Leaves file answer (parentOf file) (parent (overlaps file))
+  pub components : Leaves file answer (componentOf file) (component (overlaps file))
+  pub depths : Leaves file answer (depthOf file) (depth (overlaps file))
+  pub ranks : Leaves file answer (rankOf file) (rank (windowCount file) (overlaps file))
+  pub last-ranks : Leaves file answer (lastRankOf file) (lastRank (windowCount file) (overlaps file))
   pub tags :
       (before : List ℕ) →
       afterTags answer (numbersAt file) before
