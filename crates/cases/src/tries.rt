@@ -63,7 +63,7 @@ fn try_position(at: usize) {
     print_answer(packing::pack_neighbours(path::neighbours(&file, at, &mut out)));
     print_table(out);
     print(b"  reach");
-    print_answer(packing::pack_reach(tree::reach(&file, at)));
+    print_answer(packing::pack_reach(reaching::reach(&file, at)));
 }
 
 fn try_tags(other: [u64; 5]) {

@@ -16,23 +16,23 @@ use Rattle.interval_graph.specs.Numbers.{Numbers, numbersOf}
 use Rattle.interval_graph.proofs.Reach.{reach-bound}
 use Rattle.interval_graph.proofs.Sameness.{SameNumbers}
 use Rattle.wire.specs.LittleEndian.{bytes16}
-use Rattle.wire.specs.Question.{question, firstNo, positionQuestion}
+use Rattle.refusals.specs.Question.{question, firstNo, positionQuestion}
 use Rattle.plan.specs.File.{windowCount}
 use Rattle.plan.specs.Overlap.{overlaps}
 use Rattle.plan.specs.Validation.{AcceptedPlan, validateAnswerOf}
 use Rattle.plan.proofs.Accepted.{accepted-validated}
 use Rattle.plan.proofs.Calls.{plan-accepted}
 use Rattle.plan.proofs.Overlap.{interval-order}
-use Rattle.tag.specs.declared.reader.Tag.{Tag}
-use Rattle.tag.specs.Fields.{tagOf, tagWith, tagBytes}
-use Rattle.tag.proofs.Fields.{tagOf-tagBytes}
-use Rattle.tag.proofs.TagFile.{tagFile-lookup}
-use Rattle.tree.specs.declared.answers.ReachAnswer.the-variants as ReachAnswer
+use Rattle.tag_bytes.specs.declared.reader.Tag.{Tag}
+use Rattle.tag_bytes.specs.Fields.{tagOf, tagWith, tagBytes}
+use Rattle.tag_bytes.proofs.Fields.{tagOf-tagBytes}
+use Rattle.tag_bytes.proofs.TagFile.{tagFile-lookup}
+use Rattle.reaching.specs.declared.ReachAnswer.the-variants as ReachAnswer
 use Rattle.tree.specs.Tables.{numbersAt}
-use Rattle.tree.specs.Reach.{reachQuestions, reachAnswerOf}
-use Rattle.path.specs.declared.answers.SameAnswer.the-variants as SameAnswer
-use Rattle.path.specs.Sameness.{sameOverlap, sameAnswerOf}
-use Rattle.path.proofs.Sameness.{pairs-iff-overlaps, same-iff-numbers, compared}
+use Rattle.reaching.specs.Reach.{reachQuestions, reachAnswerOf}
+use Rattle.sameness.specs.declared.SameAnswer.the-variants as SameAnswer
+use Rattle.sameness.specs.Sameness.{sameOverlap, sameAnswerOf}
+use Rattle.sameness.proofs.Sameness.{pairs-iff-overlaps, same-iff-numbers, compared}
 use Rattle.demands.specs.EndToEnd.{tagAt}
 use Rattle.demands.specs.Calls.{ReachBounds, SameOverlap, Sameness}
 

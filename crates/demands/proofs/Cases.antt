@@ -12,7 +12,7 @@ use Rattle.interval_graph.specs.Numbers.{Outcome, apart, no-chain, outcome, num
 use Rattle.interval_graph.specs.Walk.{climb, walk, chainOf}
 use Rattle.interval_graph.proofs.Plan12.{definitions}
 use Rattle.interval_graph.proofs.Rule.{outcome-apart, outcome-no-chain}
-use Rattle.wire.specs.Question.{allYes}
+use Rattle.refusals.specs.Question.{allYes}
 use Rattle.plan.specs.File.{windowCount, fileOf}
 use Rattle.plan.specs.Overlap.{overlaps}
 use Rattle.plan.specs.Validation.{planQuestions, AcceptedPlan}

@@ -19,7 +19,7 @@ use Rattle.interval_graph.specs.Numbers.{numbersOf, Outcome, apart, no-chain, o
 use Rattle.interval_graph.proofs.Outcome.{equal-refl}
 use Rattle.interval_graph.proofs.Rule.{outcome-apart, outcome-no-chain, same-window}
 use Rattle.interval_graph.proofs.ShortestChain.{chain-least, chain-earliest-shortest, chain-first, least-is-chain, chain-empty-iff-apart, root-joined, joined-root}
-use Rattle.wire.specs.Question.{refusalBy, question, from, firstNo, positionQuestion, positionQuestions, roomQuestion}
+use Rattle.refusals.specs.Question.{refusalBy, question, from, firstNo, positionQuestion, positionQuestions, roomQuestion}
 use Rattle.plan.specs.File.{planNumber, windowCount}
 use Rattle.plan.specs.Overlap.{overlaps}
 use Rattle.plan.specs.Validation.{AcceptedPlan, validateAnswerOf}

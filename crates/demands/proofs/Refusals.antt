@@ -8,33 +8,33 @@ use mathlib.Core.List.{List, [], _∷_}
 use native.Mathlib.Omega.{arith}
 use Rattle.sequences.proofs.Tests.{truth}
 use Rattle.interval_graph.specs.Numbers.{Outcome, apart, no-chain, outcome}
-use Rattle.wire.specs.declared.Refusal.{Refusal}
-use Rattle.wire.specs.Question.{Question, firstNo}
-use Rattle.wire.proofs.Question.{first-yes, first-no}
+use Rattle.refusals.specs.declared.Refusal.{Refusal}
+use Rattle.refusals.specs.Question.{Question, firstNo}
+use Rattle.refusals.proofs.Question.{first-yes, first-no}
 use Rattle.plan.specs.declared.questions.Validation.the-variants as Validation
 use Rattle.plan.specs.Validation.{validateAnswerOf}
-use Rattle.tag.specs.declared.reader.TagRead.the-variants as TagRead
-use Rattle.tag.specs.declared.writer.WriteAnswer.the-variants as WriteAnswer
-use Rattle.tag.specs.declared.tag_file.LookupAnswer.the-variants as LookupAnswer
+use Rattle.tag_bytes.specs.declared.reader.TagRead.the-variants as TagRead
+use Rattle.tag_bytes.specs.declared.writer.WriteAnswer.the-variants as WriteAnswer
+use Rattle.tag_bytes.specs.declared.tag_file.LookupAnswer.the-variants as LookupAnswer
 use Rattle.tag.specs.declared.pairs.PairAnswer.the-variants as PairAnswer
-use Rattle.tag.specs.Fields.{tagOf, numbers}
-use Rattle.tag.specs.Reading.{readAnswerOf}
-use Rattle.tag.specs.Writing.{writeAnswerOf, afterWrite}
-use Rattle.tag.specs.TagFile.{tagPart, lookupAnswerOf}
-use Rattle.tag.proofs.TagFile.{part-refused}
+use Rattle.tag_bytes.specs.Fields.{tagOf, numbers}
+use Rattle.tag_bytes.specs.Reading.{readAnswerOf}
+use Rattle.tag_bytes.specs.Writing.{writeAnswerOf, afterWrite}
+use Rattle.tag_bytes.specs.TagFile.{tagPart, lookupAnswerOf}
+use Rattle.tag_bytes.proofs.TagFile.{part-refused}
 use Rattle.tag.specs.Pairing.{answerOf, pairAnswerOf, pairAtAnswerOf}
 use Rattle.tree.specs.declared.answers.BuildAnswer.the-variants as BuildAnswer
-use Rattle.tree.specs.declared.answers.ReachAnswer.the-variants as ReachAnswer
+use Rattle.reaching.specs.declared.ReachAnswer.the-variants as ReachAnswer
 use Rattle.minutes.specs.declared.answers.TableAnswer.the-variants as TableAnswer
 use Rattle.tree.specs.Build.{buildAnswerOf, tagsAnswerOf, afterBuild, afterTags}
 use Rattle.minutes.specs.SingleTable.{tableAnswerOf, afterTable}
-use Rattle.tree.specs.Reach.{reachAnswerOf}
+use Rattle.reaching.specs.Reach.{reachAnswerOf}
 use Rattle.path.specs.declared.answers.ChainAnswer.the-variants as ChainAnswer
 use Rattle.path.specs.declared.answers.NeighboursAnswer.the-variants as NeighboursAnswer
-use Rattle.path.specs.declared.answers.SameAnswer.the-variants as SameAnswer
+use Rattle.sameness.specs.declared.SameAnswer.the-variants as SameAnswer
 use Rattle.path.specs.Chain.{chainBetween, chainFound, chainAnswerOf, afterChain}
 use Rattle.path.specs.Neighbours.{neighboursAnswerOf, afterNeighbours}
-use Rattle.path.specs.Sameness.{sameOverlap, sameAnswerOf}
+use Rattle.sameness.specs.Sameness.{sameOverlap, sameAnswerOf}
 use Rattle.demands.specs.Refusals.{FirstNo, here, there, Refuses, Demand1}
 
 -- An answer by `firstNo` is a refusal exactly if that is the first "no", where what is accepted is no refusal and a refusal can be

@@ -8,8 +8,8 @@ use lib.ListN.{take}
 use borrow.Author.Tests.{le-leb, lt-ltb}
 use Rattle.sequences.specs.Table.{overwritten}
 use Rattle.sequences.proofs.Table.{take-overwritten}
-use Rattle.wire.specs.declared.Refusal.{Refusal}
-use Rattle.wire.specs.Question.{question, from, firstNo, positionQuestion, positionQuestions, roomQuestion}
+use Rattle.refusals.specs.declared.Refusal.{Refusal}
+use Rattle.refusals.specs.Question.{question, from, firstNo, positionQuestion, positionQuestions, roomQuestion}
 use Rattle.plan.specs.declared.questions.Validation.{Validation}
 use Rattle.plan.specs.declared.questions.Validation.the-variants as Validation
 use Rattle.plan.specs.File.{planNumber, windowCount}
@@ -20,10 +20,10 @@ use Rattle.plan.proofs.Calls.{plan-refused, plan-accepted, plan-first}
 use Rattle.plan.proofs.Counted.{windows-few, validated-windows}
 use Rattle.tag.specs.declared.pairs.PairAnswer.{PairAnswer}
 use Rattle.tag.specs.declared.pairs.PairAnswer.the-variants as PairAnswer
-use Rattle.tag.specs.Fields.{tagLength}
-use Rattle.tag.specs.TagFile.{tagFile}
+use Rattle.tag_bytes.specs.Fields.{tagLength}
+use Rattle.tag_bytes.specs.TagFile.{tagFile}
 use Rattle.tag.specs.Pairing.{pairAnswerOf, pairAtAnswerOf}
-use Rattle.tag.proofs.TagFile.{length-tagFile}
+use Rattle.tag_bytes.proofs.TagFile.{length-tagFile}
 use Rattle.tag.proofs.Pairing.{pair-at-tagFile}
 use Rattle.tree.specs.declared.answers.BuildAnswer.{BuildAnswer}
 use Rattle.tree.specs.declared.answers.BuildAnswer.the-variants.{Built, Refused}

@@ -13,11 +13,11 @@ use Rattle.plan.specs.File.{planNumber, windowCount}
 use Rattle.plan.specs.Validation.{AcceptedPlan, validateAnswerOf}
 use Rattle.plan.proofs.Accepted.{accepted-sound, accepted-validated}
 use Rattle.plan.proofs.Overlap.{interval-order}
-use Rattle.tag.specs.Fields.{tagLength, numbers, withinLimit}
-use Rattle.tag.specs.Writing.{afterWrite}
-use Rattle.tag.proofs.Fields.{limit-within, length-tagBytes}
-use Rattle.tag.proofs.Writing.{tagBytes-read, written-reads-back, read-tagBytes, read-accepted}
-use Rattle.tag.proofs.TagFile.{tagFile-lookup}
+use Rattle.tag_bytes.specs.Fields.{tagLength, numbers, withinLimit}
+use Rattle.tag_bytes.specs.Writing.{afterWrite}
+use Rattle.tag_bytes.proofs.Fields.{limit-within, length-tagBytes}
+use Rattle.tag_bytes.proofs.Writing.{tagBytes-read, written-reads-back, read-tagBytes, read-accepted}
+use Rattle.tag_bytes.proofs.TagFile.{tagFile-lookup}
 use Rattle.tree.specs.declared.answers.BuildAnswer.{BuildAnswer}
 use Rattle.tree.specs.declared.answers.BuildAnswer.the-variants as BuildAnswer
 use Rattle.minutes.specs.Tables.{parentOf}

@@ -5,10 +5,10 @@ use mathlib.Core.{Path._≡_, Logic._↔_, List.List}
 use lib.ListN.{drop}
 use Rattle.interval_graph.specs.{Chain.LeastHandovers, Tree.component}
 use Rattle.plan.specs.{File.windowCount, Overlap.overlaps, Validation.AcceptedPlan}
-use Rattle.tree.specs.Reach.{reachAnswerOf}
-use Rattle.tree.specs.declared.answers.ReachAnswer.the-variants as ReachAnswer
-use Rattle.path.specs.Sameness.{sameAnswerOf}
-use Rattle.path.specs.declared.answers.SameAnswer.the-variants as SameAnswer
+use Rattle.reaching.specs.Reach.{reachAnswerOf}
+use Rattle.reaching.specs.declared.ReachAnswer.the-variants as ReachAnswer
+use Rattle.sameness.specs.Sameness.{sameAnswerOf}
+use Rattle.sameness.specs.declared.SameAnswer.the-variants as SameAnswer
 use Rattle.demands.specs.EndToEnd.{tagAt}
 
 -- "no two windows of the component are more handovers apart than that"
@@ -29,8 +29,7 @@ pub record EqualTags (first second : List ℕ) : Type 0 where
   pub count : windowCount first ≡ windowCount second
   pub tags : (v : ℕ) → v < windowCount first → drop 2 (tagAt first v) ≡ drop 2 (tagAt second v)
 
--- "Two plans are the same when they have equal n and the same pairs of positions overlap; equal tags apart from the plan number say
--- just that."
+-- "Two plans are the same when …; equal tags apart from the plan number say just that."
 pub record SameAnswered (first second : List ℕ) : Type 0 where
   pub same : (sameAnswerOf first second ≡ SameAnswer.Same) ↔ SameOverlap first second
   pub different : (sameAnswerOf first second ≡ SameAnswer.Different) ↔ (SameOverlap first second → ⊥)

@@ -1,5 +1,4 @@
--- Paper 01, "One plan, worked" and "Agreement on promises": "The cases marked P form one table, proved together from the
--- definitions".
+-- Paper 01, "Agreement on promises": "The cases marked P form one table, proved together from the definitions".
 -- Vocabulary: plan12, touching, overlapping, Case, cases, Says, CaseHolds, CasesHold.
 use Prim.Native.Nat.{ℕ, _<_}
 use mathlib.Core.{Path._≡_, Logic._⊎_, List.List, List.[], List._∷_, List.List·Memᴰ}

@@ -6,9 +6,10 @@ use Prim.Native.Nat.{ℕ, suc, _<_, max}
 use mathlib.Core.{Path._≡_, Logic._↔_, List.List, List._++_}
 use lib.ListN.{length, take}
 use Rattle.interval_graph.specs.Chain.{firstEntry, handovers, Joined, LeastHandovers, EarliestShortest}
-use Rattle.wire.specs.{declared.Refusal.Refusal, Question.firstNo, Question.positionQuestions}
+use Rattle.refusals.specs.{declared.Refusal.Refusal, Question.firstNo, Question.positionQuestions}
 use Rattle.plan.specs.{File.windowCount, Overlap.overlaps, Validation.planQuestions, Validation.AcceptedPlan}
-use Rattle.tag.specs.{declared.pairs.PairAnswer.PairAnswer, TagFile.tagFile, TagFile.lookupPart, Pairing.pairAnswerOf}
+use Rattle.tag_bytes.specs.TagFile.{tagFile, lookupPart}
+use Rattle.tag.specs.{declared.pairs.PairAnswer.PairAnswer, Pairing.pairAnswerOf}
 use Rattle.tag.specs.declared.pairs.PairAnswer.the-variants as PairAnswer
 use Rattle.tree.specs.Tables.{numbersAt}
 use Rattle.path.specs.{declared.answers.ChainAnswer.ChainAnswer, Chain.chainBetween, Chain.chainAnswerOf, Chain.afterChain}

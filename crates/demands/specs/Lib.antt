@@ -16,9 +16,9 @@
 -- What to read, in this order, and what it rests on:
 --   EndToEnd  demand 3, of a call that runs all of it. It rests on chains (interval_graph/specs/Chain), windows and their bytes
 --             (plan/specs/File, wire/specs/LittleEndian), overlap (plan/specs/Overlap) and acceptance (plan/specs/Validation,
---             wire/specs/Question), and on nothing else: tree, tags, rule and walk need no belief, since this is proved of them
---   Tree      demand 2. It rests also on interval_graph/specs/{Forest, Tree}, up to rank, on sequences/specs and on tag/specs/Fields
---   Refusals  demand 1. It rests on the questions of each call: …Questions in plan, tag, tree and path
+--             refusals/specs/Question), and on nothing else: tree, tags, rule and walk need no belief, since this is proved of them
+--   Tree      demand 2. It rests also on interval_graph/specs/{Forest, Tree}, up to rank, on sequences/specs and on tag_bytes/specs/Fields
+--   Refusals  demand 1. It rests on the questions of each call: …Questions in plan, tag_bytes, tag, minutes, tree, reaching, path, sameness
 --   Calls     what paper 01 says of reach, of sameness and of equal tags
 --   Cases     paper 01's cases marked P, as one table
 -- Merely named, and proved right: sizes and starts (Forest), Walk, Numbers (the rule on two tags), boundOf (Overlap).

@@ -5,27 +5,28 @@
 use Prim.Native.Nat.{ℕ}
 use mathlib.Core.{Bool.true, Bool.false, Path._≡_, Logic._↔_, List.List, List.[], List._∷_}
 use Rattle.interval_graph.specs.Numbers.{Numbers}
-use Rattle.wire.specs.{declared.Refusal.Refusal, Question.Question}
+use Rattle.refusals.specs.{declared.Refusal.Refusal, Question.Question}
 use Rattle.plan.specs.Validation.{planQuestions, validateAnswerOf}
 use Rattle.plan.specs.declared.questions.Validation.the-variants as Validation
-use Rattle.tag.specs.{Reading.readQuestions, Reading.readAnswerOf, Writing.writeQuestions, Writing.writeAnswerOf, Writing.afterWrite}
-use Rattle.tag.specs.TagFile.{lookupQuestions, lookupAnswerOf, lookupPart}
+use Rattle.tag_bytes.specs.{Reading.readQuestions, Reading.readAnswerOf, Writing.writeQuestions, Writing.writeAnswerOf, Writing.afterWrite}
+use Rattle.tag_bytes.specs.TagFile.{lookupQuestions, lookupAnswerOf, lookupPart}
+use Rattle.tag_bytes.specs.declared.reader.TagRead.the-variants as TagRead
+use Rattle.tag_bytes.specs.declared.writer.WriteAnswer.the-variants as WriteAnswer
+use Rattle.tag_bytes.specs.declared.tag_file.LookupAnswer.the-variants as LookupAnswer
 use Rattle.tag.specs.Pairing.{pairQuestions, pairAnswerOf, pairAtQuestions, pairAtAnswerOf}
-use Rattle.tag.specs.declared.reader.TagRead.the-variants as TagRead
-use Rattle.tag.specs.declared.writer.WriteAnswer.the-variants as WriteAnswer
-use Rattle.tag.specs.declared.tag_file.LookupAnswer.the-variants as LookupAnswer
 use Rattle.tag.specs.declared.pairs.PairAnswer.the-variants as PairAnswer
 use Rattle.minutes.specs.SingleTable.{tableQuestions, tableAnswerOf, afterTable}
 use Rattle.minutes.specs.declared.answers.TableAnswer.the-variants as TableAnswer
 use Rattle.tree.specs.Build.{buildQuestions, buildAnswerOf, tagsQuestions, tagsAnswerOf, afterBuild, afterTags}
-use Rattle.tree.specs.Reach.{reachQuestions, reachAnswerOf}
 use Rattle.tree.specs.declared.answers.BuildAnswer.the-variants as BuildAnswer
-use Rattle.tree.specs.declared.answers.ReachAnswer.the-variants as ReachAnswer
-use Rattle.path.specs.{Chain.chainQuestions, Chain.chainAnswerOf, Chain.afterChain, Sameness.sameQuestions, Sameness.sameAnswerOf}
+use Rattle.reaching.specs.Reach.{reachQuestions, reachAnswerOf}
+use Rattle.reaching.specs.declared.ReachAnswer.the-variants as ReachAnswer
+use Rattle.path.specs.Chain.{chainQuestions, chainAnswerOf, afterChain}
 use Rattle.path.specs.Neighbours.{neighboursQuestions, neighboursAnswerOf, afterNeighbours}
+use Rattle.sameness.specs.Sameness.{sameQuestions, sameAnswerOf}
 use Rattle.path.specs.declared.answers.ChainAnswer.the-variants as ChainAnswer
 use Rattle.path.specs.declared.answers.NeighboursAnswer.the-variants as NeighboursAnswer
-use Rattle.path.specs.declared.answers.SameAnswer.the-variants as SameAnswer
+use Rattle.sameness.specs.declared.SameAnswer.the-variants as SameAnswer
 
 -- Of questions asked in order, the first that is answered "no" gives this refusal.
 pub data FirstNo : List Question → Refusal → Type 0 where

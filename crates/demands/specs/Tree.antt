@@ -7,10 +7,10 @@ use lib.ListN.{length, getD, take, drop}
 use Rattle.sequences.specs.Table.{table, overwritten}
 use Rattle.interval_graph.specs.{Tree.parent, Tree.component, Tree.depth, Tree.rank, Tree.lastRank, Numbers.Numbers, Numbers.numbersOf}
 use Rattle.plan.specs.{File.planNumber, File.windowCount, Overlap.overlaps, Validation.AcceptedPlan}
-use Rattle.tag.specs.{declared.reader.Tag.Tag, Fields.tagLength, Fields.numbers, Fields.tagWith, TagFile.tagFile}
-use Rattle.tag.specs.{Reading.readAnswerOf, Writing.writeAnswerOf, Writing.afterWrite}
-use Rattle.tag.specs.declared.reader.TagRead.the-variants as TagRead
-use Rattle.tag.specs.declared.writer.WriteAnswer.the-variants as WriteAnswer
+use Rattle.tag_bytes.specs.{declared.reader.Tag.Tag, Fields.tagLength, Fields.numbers, Fields.tagWith, TagFile.tagFile}
+use Rattle.tag_bytes.specs.{Reading.readAnswerOf, Writing.writeAnswerOf, Writing.afterWrite}
+use Rattle.tag_bytes.specs.declared.reader.TagRead.the-variants as TagRead
+use Rattle.tag_bytes.specs.declared.writer.WriteAnswer.the-variants as WriteAnswer
 use Rattle.minutes.specs.Tables.{parentOf}
 use Rattle.tree.specs.Tables.{componentOf, depthOf, rankOf, lastRankOf, componentCount, numbersAt}
 use Rattle.tree.specs.{declared.answers.BuildAnswer.BuildAnswer, Build.buildAnswerOf, Build.afterBuild, Build.afterTags}

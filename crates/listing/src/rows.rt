@@ -1,8 +1,8 @@
 // The lines of the listing: plan number, windows and components, and a row for each window; or the refusal.
 use libc::STDOUT_FILENO;
 use plan::GREATEST_COUNT;
+use refusals::Refusal;
 use tree::BuildAnswer;
-use wire::Refusal;
 
 fn print_first(field: u16) {
     io::print_decimal(STDOUT_FILENO, field as u64);

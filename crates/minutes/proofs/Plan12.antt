@@ -4,7 +4,7 @@
 use mathlib.Core.Path.{_≡_, refl}
 use mathlib.Core.List.{[], _∷_}
 use Rattle.sequences.specs.Table.{table, overwritten}
-use Rattle.wire.specs.Question.{refusalBy, roomQuestion}
+use Rattle.refusals.specs.Question.{refusalBy, roomQuestion}
 use Rattle.plan.proofs.Plan12.{file, meaning}
 use Rattle.minutes.specs.declared.answers.TableAnswer.the-variants.{Filled, Refused}
 use Rattle.minutes.specs.Tables.{lastOf, parentOf}

@@ -12,8 +12,8 @@ use borrow.Author.Tests.{le-leb, lt-leb}
 use Rattle.sequences.specs.Table.{Holds}
 use Rattle.sequences.proofs.Tests.{lt-or-ge}
 use Rattle.sequences.proofs.Table.{overwritten-holds}
-use Rattle.wire.specs.declared.Refusal.{Refusal}
-use Rattle.wire.specs.Question.{refusalBy, question, roomQuestion, firstNo}
+use Rattle.refusals.specs.declared.Refusal.{Refusal}
+use Rattle.refusals.specs.Question.{refusalBy, question, roomQuestion, firstNo}
 use Rattle.plan.specs.declared.questions.Validation.{Validation}
 use Rattle.plan.specs.File.{windowCount}
 use Rattle.plan.specs.Validation.{greatestCount, validateAnswerOf}

@@ -3,7 +3,7 @@
 use Prim.Native.Nat.{ℕ}
 use mathlib.Core.List.{List, [], _∷_, _++_}
 use Rattle.sequences.specs.Table.{table, overwritten}
-use Rattle.wire.specs.Question.{Question, roomQuestion, firstNo}
+use Rattle.refusals.specs.Question.{Question, roomQuestion, firstNo}
 use Rattle.plan.specs.File.{windowCount}
 use Rattle.plan.specs.Validation.{planQuestions}
 use Rattle.minutes.specs.declared.answers.TableAnswer.{TableAnswer}

@@ -1,6 +1,6 @@
 // What the calls of this crate answer.
 use plan::Validation;
-use wire::Refusal;
+use refusals::Refusal;
 ghost use mathlib.Core.Path.{_≡_};
 ghost use Rattle.minutes.specs.SingleTable.{tableAnswerOf};
 

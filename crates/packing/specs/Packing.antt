@@ -4,25 +4,25 @@
 -- Vocabulary: packed, packedRefusal, packedValidation, packedBuild, packedReach, packedChain, packedNeighbours, packedSame,
 -- packedPair, packedLookup, packedWrite.
 use Prim.Native.Nat.{ℕ, _+_, _*_}
-use Rattle.wire.specs.declared.Refusal.{Refusal}
+use Rattle.refusals.specs.declared.Refusal.{Refusal}
 use Rattle.plan.specs.declared.questions.Validation.{Validation}
 use Rattle.plan.specs.declared.questions.Validation.the-variants as validation
 use Rattle.tree.specs.declared.answers.BuildAnswer.{BuildAnswer}
 use Rattle.tree.specs.declared.answers.BuildAnswer.the-variants as build
-use Rattle.tree.specs.declared.answers.ReachAnswer.{ReachAnswer}
-use Rattle.tree.specs.declared.answers.ReachAnswer.the-variants as reach
+use Rattle.reaching.specs.declared.ReachAnswer.{ReachAnswer}
+use Rattle.reaching.specs.declared.ReachAnswer.the-variants as reach
 use Rattle.path.specs.declared.answers.ChainAnswer.{ChainAnswer}
 use Rattle.path.specs.declared.answers.ChainAnswer.the-variants as chain
 use Rattle.path.specs.declared.answers.NeighboursAnswer.{NeighboursAnswer}
 use Rattle.path.specs.declared.answers.NeighboursAnswer.the-variants as neighbours
-use Rattle.path.specs.declared.answers.SameAnswer.{SameAnswer}
-use Rattle.path.specs.declared.answers.SameAnswer.the-variants as same
+use Rattle.sameness.specs.declared.SameAnswer.{SameAnswer}
+use Rattle.sameness.specs.declared.SameAnswer.the-variants as same
 use Rattle.tag.specs.declared.pairs.PairAnswer.{PairAnswer}
 use Rattle.tag.specs.declared.pairs.PairAnswer.the-variants as pair
-use Rattle.tag.specs.declared.tag_file.LookupAnswer.{LookupAnswer}
-use Rattle.tag.specs.declared.tag_file.LookupAnswer.the-variants as lookup
-use Rattle.tag.specs.declared.writer.WriteAnswer.{WriteAnswer}
-use Rattle.tag.specs.declared.writer.WriteAnswer.the-variants as write
+use Rattle.tag_bytes.specs.declared.tag_file.LookupAnswer.{LookupAnswer}
+use Rattle.tag_bytes.specs.declared.tag_file.LookupAnswer.the-variants as lookup
+use Rattle.tag_bytes.specs.declared.writer.WriteAnswer.{WriteAnswer}
+use Rattle.tag_bytes.specs.declared.writer.WriteAnswer.the-variants as write
 
 -- Four fields of 16 bits, the lowest first.
 abbrev pub packed : (kind first second third : ℕ) → ℕ

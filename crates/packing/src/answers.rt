@@ -1,14 +1,14 @@
 // Each answer as one number of 64 bits: four fields of 16 bits, the kind lowest.
 use path::ChainAnswer;
 use path::NeighboursAnswer;
-use path::SameAnswer;
 use plan::Validation;
+use reaching::ReachAnswer;
+use refusals::Refusal;
+use sameness::SameAnswer;
 use tag::LookupAnswer;
 use tag::PairAnswer;
 use tag::WriteAnswer;
 use tree::BuildAnswer;
-use tree::ReachAnswer;
-use wire::Refusal;
 ghost use mathlib.Core.Path.{_≡_};
 ghost use Rattle.packing.specs.Packing.{packed, packedRefusal, packedValidation, packedBuild, packedReach, packedChain, packedNeighbours, packedSame, packedPair, packedLookup, packedWrite};
 

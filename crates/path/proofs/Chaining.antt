@@ -5,11 +5,11 @@ use mathlib.Core.Path.{_≡_, sym, _∙_}
 use mathlib.Core.List.{List, [], _∷_}
 use lib.ListN.{length}
 use Rattle.interval_graph.proofs.ShortestChain.{chain-symmetric}
-use Rattle.wire.specs.declared.Refusal.{Refusal}
-use Rattle.wire.specs.declared.Asked.{Asked}
-use Rattle.wire.specs.declared.Asked.the-variants as asked
-use Rattle.wire.specs.Question.{askedOf, positionQuestions, roomQuestion}
-use Rattle.wire.proofs.Question.{asked-refused, asked-passed}
+use Rattle.refusals.specs.declared.Refusal.{Refusal}
+use Rattle.refusals.specs.declared.Asked.{Asked}
+use Rattle.refusals.specs.declared.Asked.the-variants as asked
+use Rattle.refusals.specs.Question.{askedOf, positionQuestions, roomQuestion}
+use Rattle.refusals.proofs.Question.{asked-refused, asked-passed}
 use Rattle.plan.specs.declared.questions.Validation.the-variants as Validation
 use Rattle.plan.specs.Validation.{validateAnswerOf}
 use Rattle.plan.specs.AcceptedWindows.{AcceptedWindows}

@@ -4,7 +4,6 @@
 --   Walking     the chain by the number of its steps, and what is answered with it
 --   Chaining    the answers of `chain` after each test
 --   Neighbouring  the pass that lists the windows which overlap one, and the answers of `neighbours`
---   Sameness    two plans that are the same, by lasts and by numbers, and the answers of `same`
 --   Meaning     what the answers say, in the paper's words
 --   Plan12      the paper's plan, computed
 pub mod Meeting
@@ -12,6 +11,5 @@ pub mod Climbing
 pub mod Walking
 pub mod Chaining
 pub mod Neighbouring
-pub mod Sameness
 pub mod Meaning
 pub mod Plan12

@@ -12,8 +12,8 @@ use borrow.Author.Tests.{lt-ltb, le-ltb, le-leb, lt-leb}
 use Rattle.sequences.specs.Search.{passing}
 use Rattle.sequences.specs.Table.{overwritten}
 use Rattle.sequences.proofs.Appending.{Written, written-none, written-more, passing-more, passing-kept, passing-monotone, passing-few}
-use Rattle.wire.specs.declared.Refusal.{Refusal}
-use Rattle.wire.specs.Question.{refusalBy, question, positionQuestion, roomQuestion, firstNo}
+use Rattle.refusals.specs.declared.Refusal.{Refusal}
+use Rattle.refusals.specs.Question.{refusalBy, question, positionQuestion, roomQuestion, firstNo}
 use Rattle.plan.specs.declared.questions.Validation.{Validation}
 use Rattle.plan.specs.declared.questions.Validation.the-variants as Validation
 use Rattle.plan.specs.File.{windowCount}

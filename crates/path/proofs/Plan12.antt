@@ -1,24 +1,19 @@
--- Paper 01's plan 12, from its bytes: chains, neighbours and sameness come out of the definitions by computation.
+-- Paper 01's plan 12, from its bytes: chains and neighbours come out of the definitions by computation.
 -- Assumes nothing.
-use Prim.Native.Nat.{ℕ}
 use mathlib.Core.Path.{_≡_, refl}
 use mathlib.Core.List.{[], _∷_}
 use Rattle.interval_graph.specs.Walk.{climb, walk, chainOf}
-use Rattle.sequences.specs.Search.{passing, every}
-use Rattle.plan.specs.declared.windows.Window.{Window}
-use Rattle.plan.specs.File.{fileOf}
+use Rattle.sequences.specs.Search.{passing}
 use Rattle.plan.proofs.Plan12.{file, meaning}
 use Rattle.path.specs.declared.answers.ChainAnswer.the-variants.{Chain, NoChain, Refused}
 use Rattle.path.specs.declared.answers.NeighboursAnswer.the-variants as NeighboursAnswer
-use Rattle.path.specs.declared.answers.SameAnswer.the-variants as SameAnswer
-use Rattle.wire.specs.Question.{refusalBy, refusalFrom, from, positionQuestion, positionQuestions, roomQuestion}
+use Rattle.refusals.specs.Question.{refusalBy, refusalFrom, from, positionQuestion, positionQuestions, roomQuestion}
 use Rattle.path.specs.Chain.{chainBetween, chainQuestions, chainFound, chainAnswerOf}
 use Rattle.path.specs.Neighbours.{neighboursOf, neighboursQuestions, neighboursAnswerOf}
-use Rattle.path.specs.Sameness.{samePairs, sameOverlap, sameQuestions, sameAnswerOf}
 
 -- What a computation on the file opens.
 unfoldable answers : Unit {0}
-unfolding meaning climb walk chainOf passing from positionQuestion positionQuestions roomQuestion chainBetween chainQuestions chainFound chainAnswerOf neighboursOf neighboursQuestions neighboursAnswerOf every samePairs sameOverlap sameQuestions sameAnswerOf
+unfolding meaning climb walk chainOf passing from positionQuestion positionQuestions roomQuestion chainBetween chainQuestions chainFound chainAnswerOf neighboursOf neighboursQuestions neighboursAnswerOf
 answers = tt
 
 -- "0 to 5 is 3, chain 5 4 2 0 … 3 to 5 is 3, chain 5 4 2 3 … 1 to 3 is 2, chain 3 0 1 … 5 to 6: no chain."
@@ -42,15 +37,3 @@ plan-12-answers = (refl, refl, refl, refl)
 pub plan-12-neighbours : (neighboursOf file 2 ≡ 0 ∷ 1 ∷ 3 ∷ 4 ∷ []) × (neighboursOf file 6 ≡ []) × (neighboursAnswerOf file 2 4 ≡ NeighboursAnswer.Neighbours 4)
 unfolding answers
 plan-12-neighbours = (refl, refl, refl)
-
-pub plan-12-same : sameAnswerOf file file ≡ SameAnswer.Same
-unfolding answers
-plan-12-same = refl
-
--- Two plans with other numbers, minutes and lengths and one overlap, and two with equal lengths and another.
-abbrev window : ℕ → ℕ → Window
-window offset length = record { offset = offset; length = length }
-
-pub same-by-overlap : (sameAnswerOf (fileOf 1 (window 0 11 ∷ window 10 5 ∷ [])) (fileOf 2 (window 5 5 ∷ window 5 5 ∷ [])) ≡ SameAnswer.Same) × (sameAnswerOf (fileOf 1 (window 0 5 ∷ window 5 5 ∷ [])) (fileOf 1 (window 0 5 ∷ window 4 5 ∷ [])) ≡ SameAnswer.Different)
-unfolding answers
-same-by-overlap = (refl, refl)

@@ -19,7 +19,7 @@ use Rattle.interval_graph.specs.Walk.{climb, walk}
 use Rattle.interval_graph.proofs.Parent.{tree}
 use Rattle.interval_graph.proofs.Ancestor.{ancestor-zero, ancestor-suc, ancestor-le}
 use Rattle.interval_graph.proofs.ShortestChain.{chain-same, chain-walk, chain-none}
-use Rattle.wire.specs.Question.{refusalBy, question, roomQuestion, firstNo}
+use Rattle.refusals.specs.Question.{refusalBy, question, roomQuestion, firstNo}
 use Rattle.plan.specs.File.{windowCount}
 use Rattle.plan.specs.Overlap.{overlaps}
 use Rattle.path.specs.declared.answers.ChainAnswer.the-variants.{Chain, NoChain, Refused}

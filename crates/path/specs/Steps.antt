@@ -8,7 +8,7 @@ use lib.Dec.{eqb}
 use Rattle.sequences.specs.Table.{table, Holds}
 use Rattle.interval_graph.specs.Tree.{parent, ancestor}
 use Rattle.interval_graph.specs.Walk.{climb}
-use Rattle.wire.specs.Question.{roomQuestion, firstNo}
+use Rattle.refusals.specs.Question.{roomQuestion, firstNo}
 use Rattle.plan.specs.File.{windowCount}
 use Rattle.plan.specs.Overlap.{overlaps}
 use Rattle.plan.specs.Validation.{AcceptedPlan}

@@ -1,5 +1,5 @@
 // What the calls of this crate answer.
-use wire::Refusal;
+use refusals::Refusal;
 
 pub enum ChainAnswer {
     // How many entries were written, the two windows among them.
@@ -11,11 +11,5 @@ pub enum ChainAnswer {
 pub enum NeighboursAnswer {
     // How many positions were written.
     Neighbours(u16),
-    Refused(Refusal),
-}
-
-pub enum SameAnswer {
-    Same,
-    Different,
     Refused(Refusal),
 }

@@ -4,8 +4,8 @@ use crate::walk::steps_before;
 use crate::walk::write_walk;
 use minutes::TableAnswer;
 use plan::GREATEST_COUNT;
-use wire::Asked;
-use wire::Refusal;
+use refusals::Asked;
+use refusals::Refusal;
 ghost use mathlib.Core.Path.{_≡_};
 ghost use Prim.Native.Nat.{_≤_, _<_};
 ghost use lib.ListN.{length};
@@ -49,7 +49,7 @@ pub fn chain(file: &[u8], first: usize, second: usize, out: &mut [u16]) -> Chain
         TableAnswer::Filled { windows } => windows as usize,
         TableAnswer::Refused(refusal) => return ChainAnswer::Refused(refusal),
     };
-    let asked = wire::ask_positions(first, second, windows);
+    let asked = refusals::ask_positions(first, second, windows);
     if let Asked::Refused(refusal) = asked {
         return ChainAnswer::Refused(refusal);
     }

@@ -3,7 +3,7 @@ use crate::answers::NeighboursAnswer;
 use crate::windows::meets;
 use crate::windows::window_at;
 use plan::Validation;
-use wire::Refusal;
+use refusals::Refusal;
 ghost use mathlib.Core.Path.{_≡_};
 ghost use Prim.Native.Nat.{_≤_, _<_};
 ghost use lib.ListN.{length};

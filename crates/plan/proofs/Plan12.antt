@@ -7,7 +7,7 @@ use mathlib.Core.List.{List, [], _∷_, flatMap}
 use Rattle.sequences.specs.Table.{table}
 use Rattle.interval_graph.proofs.Plan12.{definitions, row, listing}
 use Rattle.wire.specs.LittleEndian.{le16, le32, bytes16, bytes32}
-use Rattle.wire.specs.Question.{refusalBy, refusalAbout, question, about, each, firstNo}
+use Rattle.refusals.specs.Question.{refusalBy, refusalAbout, question, about, each, firstNo}
 use Rattle.plan.specs.declared.windows.Window.{Window}
 use Rattle.plan.specs.declared.questions.Validation.the-variants.{Accepted, Refused}
 use Rattle.plan.specs.File.{planNumber, windowCount, windowOf, windowAt, endOf, headerBytes, windowBytes, fileOf}

@@ -8,10 +8,10 @@ use native.Mathlib.Nat.{add-sub-cancel-left}
 use native.Mathlib.Numerals.{add-one}
 use lib.ListN.{length, take, drop}
 use borrow.Author.Tests.{le-leb, lt-leb, eq-eqb, ne-eqb}
-use Rattle.wire.specs.declared.Refusal.{Refusal}
-use Rattle.wire.specs.declared.Asked.the-variants as asked
-use Rattle.wire.specs.Question.{Question, refusalBy, refusalAbout, question, each, firstNo, askedOf}
-use Rattle.wire.proofs.Question.{Asking, asking-start, asking-turn, asking-refused, asking-end}
+use Rattle.refusals.specs.declared.Refusal.{Refusal}
+use Rattle.refusals.specs.declared.Asked.the-variants as asked
+use Rattle.refusals.specs.Question.{Question, refusalBy, refusalAbout, question, each, firstNo, askedOf}
+use Rattle.refusals.proofs.Question.{Asking, asking-start, asking-turn, asking-refused, asking-end}
 use Rattle.plan.specs.declared.windows.Window.{Window}
 use Rattle.plan.specs.declared.questions.Validation.the-variants.{Accepted, Refused}
 use Rattle.plan.specs.File.{headerLength, windowLength, fileLength, windowPlace, planNumber, windowCount, windowOf, windowAt, endOf}

@@ -16,8 +16,8 @@ use Rattle.sequences.proofs.Tests.{and-true-right}
 use Rattle.sequences.proofs.Records.{length-records, record-part}
 use Rattle.wire.specs.LittleEndian.{le16, le32, bytes16, bytes32, placed}
 use Rattle.wire.proofs.LittleEndian.{placed-behind, placed-short}
-use Rattle.wire.specs.Question.{question, about, each, allYes}
-use Rattle.wire.proofs.Question.{all-append, all-about}
+use Rattle.refusals.specs.Question.{question, about, each, allYes}
+use Rattle.refusals.proofs.Question.{all-append, all-about}
 use Rattle.plan.specs.declared.windows.Window.{Window}
 use Rattle.plan.specs.File.{headerLength, windowLength, fileLength, windowPlace, planNumber, windowCount, windowOf, windowAt, headerBytes, windowBytes, fileOf}
 use Rattle.plan.specs.Validation.{greatestCount, offsetBefore, windowQuestions, fileQuestions, planQuestions}

@@ -6,12 +6,12 @@ use crate::figures::WINDOW_LENGTH;
 use crate::windows::Window;
 use crate::windows::read_window;
 use crate::windows::window_end;
-use wire::Asked;
-use wire::Refusal;
+use refusals::Asked;
+use refusals::Refusal;
 ghost use mathlib.Core.Path.{_≡_};
 ghost use Prim.Native.Nat.{_≤_};
 ghost use lib.ListN.{length};
-ghost use Rattle.wire.specs.Question.{each, askedOf, firstNo};
+ghost use Rattle.refusals.specs.Question.{each, askedOf, firstNo};
 ghost use Rattle.plan.specs.File.{fileLength, windowAt};
 ghost use Rattle.plan.specs.Validation.{greatestCount, offsetBefore, windowQuestions, validateAnswerOf};
 

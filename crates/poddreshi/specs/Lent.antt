@@ -5,9 +5,9 @@ use mathlib.Core.List.{List}
 use lib.ListN.{length}
 use Rattle.tree.specs.declared.answers.BuildAnswer.{BuildAnswer}
 use Rattle.tree.specs.Build.{buildAnswerOf}
-use Rattle.tag.specs.declared.tag_file.LookupAnswer.{LookupAnswer}
-use Rattle.tag.specs.declared.tag_file.LookupAnswer.the-variants.{Found, Refused}
-use Rattle.tag.specs.Fields.{tagLength}
+use Rattle.tag_bytes.specs.declared.tag_file.LookupAnswer.{LookupAnswer}
+use Rattle.tag_bytes.specs.declared.tag_file.LookupAnswer.the-variants.{Found, Refused}
+use Rattle.tag_bytes.specs.Fields.{tagLength}
 
 -- What build answers for a file, the five tables and the tag file that are lent to it.
 abbrev pub builtIn : (file parents components depths ranks lastRanks tags : List ℕ) → BuildAnswer

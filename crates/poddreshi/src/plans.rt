@@ -11,10 +11,10 @@ ghost use Rattle.plan.specs.Validation.{validateAnswerOf};
 ghost use Rattle.minutes.specs.Tables.{parentOf};
 ghost use Rattle.tree.specs.Tables.{componentOf, depthOf, rankOf, lastRankOf, numbersAt};
 ghost use Rattle.tree.specs.Build.{buildAnswerOf, afterBuild, afterTags, tagsAnswerOf};
-ghost use Rattle.tree.specs.Reach.{reachAnswerOf};
+ghost use Rattle.reaching.specs.Reach.{reachAnswerOf};
 ghost use Rattle.path.specs.Chain.{chainBetween, chainAnswerOf, afterChain};
 ghost use Rattle.path.specs.Neighbours.{neighboursOf, neighboursAnswerOf, afterNeighbours};
-ghost use Rattle.path.specs.Sameness.{sameAnswerOf};
+ghost use Rattle.sameness.specs.Sameness.{sameAnswerOf};
 ghost use Rattle.packing.specs.Packing.{packedValidation, packedBuild, packedReach, packedChain, packedNeighbours, packedSame};
 ghost use Rattle.poddreshi.specs.Lent.{builtIn};
 
@@ -62,7 +62,7 @@ pub extern "C" fn poddreshi_tags(file: &[u8], tags: &mut [u8]) -> u64
 pub extern "C" fn poddreshi_reach(file: &[u8], at: usize) -> u64
     ensures { λ r. ⌜ r ≡ packedReach (reachAnswerOf (now (file .entry)) at) ⌝ }
 {
-    pack_reach(tree::reach(file, at))
+    pack_reach(reaching::reach(file, at))
 }
 
 // The shortest chain between two windows that has the earliest window at each step, from the later to the earlier.
@@ -88,5 +88,5 @@ pub extern "C" fn poddreshi_neighbours(file: &[u8], at: usize, out: &mut [u16]) 
 pub extern "C" fn poddreshi_same(first: &[u8], second: &[u8]) -> u64
     ensures { λ r. ⌜ r ≡ packedSame (sameAnswerOf (now (first .entry)) (now (second .entry))) ⌝ }
 {
-    pack_same(path::same(first, second))
+    pack_same(sameness::same(first, second))
 }

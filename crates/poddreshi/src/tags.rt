@@ -2,14 +2,14 @@
 use packing::pack_lookup;
 use packing::pack_pair;
 use packing::pack_write;
+use refusals::Asked;
 use tag::LookupAnswer;
 use tag::PairAnswer;
 use tag::Tag;
-use wire::Asked;
 ghost use mathlib.Core.Path.{_≡_};
 ghost use Rattle.tag.specs.Pairing.{pairAnswerOf, pairAtAnswerOf};
-ghost use Rattle.tag.specs.TagFile.{lookupAnswerOf};
-ghost use Rattle.tag.specs.Writing.{writeAnswerOf, afterWrite};
+ghost use Rattle.tag_bytes.specs.TagFile.{lookupAnswerOf};
+ghost use Rattle.tag_bytes.specs.Writing.{writeAnswerOf, afterWrite};
 ghost use Rattle.packing.specs.Packing.{packedPair, packedLookup, packedWrite};
 ghost use Rattle.poddreshi.specs.Lent.{offsetAfter};
 

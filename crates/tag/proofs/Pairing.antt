@@ -13,24 +13,24 @@ use borrow.Author.Tests.{eq-eqb, ne-eqb, eqb-true, ltb-true}
 use Rattle.sequences.proofs.Tests.{eqb-symmetric, truth}
 use Rattle.interval_graph.specs.Numbers.{Numbers, Outcome, apart, no-chain, equal, comesFirst, between, outcome}
 use Rattle.interval_graph.proofs.Outcome.{equal-refl, equal-symmetric, outcome-equal, outcome-components, outcome-first, outcome-second, outcome-symmetric, outcome-most}
-use Rattle.wire.specs.declared.Refusal.{Refusal}
-use Rattle.wire.specs.declared.Asked.{Asked}
-use Rattle.wire.specs.declared.Asked.the-variants as asked
-use Rattle.wire.specs.Question.{refusalBy, refusalFrom, question, from, firstNo, askedOf, positionQuestion, positionQuestions}
-use Rattle.wire.proofs.Question.{first-append, first-from, answer-accepted, afterAsked, asked-first, asked-refused, asked-passed, first-all, all-member, all-from, append-left, append-right, passed-within}
+use Rattle.refusals.specs.declared.Refusal.{Refusal}
+use Rattle.refusals.specs.declared.Asked.{Asked}
+use Rattle.refusals.specs.declared.Asked.the-variants as asked
+use Rattle.refusals.specs.Question.{refusalBy, refusalFrom, question, from, firstNo, askedOf, positionQuestion, positionQuestions}
+use Rattle.refusals.proofs.Question.{first-append, first-from, answer-accepted, afterAsked, asked-first, asked-refused, asked-passed, first-all, all-member, all-from, append-left, append-right, passed-within}
 use lib.Dec.{eqb}
-use Rattle.tag.specs.declared.reader.Tag.{Tag}
-use Rattle.tag.specs.declared.reader.TagRead.the-variants as read
+use Rattle.tag_bytes.specs.declared.reader.Tag.{Tag}
+use Rattle.tag_bytes.specs.declared.reader.TagRead.the-variants as read
 use Rattle.tag.specs.declared.pairs.PairAnswer.{PairAnswer}
 use Rattle.tag.specs.declared.pairs.PairAnswer.the-variants.{Handovers, NoChain, Refused}
-use Rattle.tag.specs.Fields.{tagLength, fieldLimit, tagOf, numbers, tagWith, tagBytes, withinLimit}
-use Rattle.tag.specs.Reading.{readQuestions, readAnswerOf}
-use Rattle.tag.specs.TagFile.{tagFile, tagCount, tagPart, tagFileQuestion, lookupPart}
+use Rattle.tag_bytes.specs.Fields.{tagLength, fieldLimit, tagOf, numbers, tagWith, tagBytes, withinLimit}
+use Rattle.tag_bytes.specs.Reading.{readQuestions, readAnswerOf}
+use Rattle.tag_bytes.specs.TagFile.{tagFile, tagCount, tagPart, tagFileQuestion, lookupPart}
 use Rattle.tag.specs.Pairing.{agreeing, compareQuestions, pairQuestions, answerOf, comparedOf, pairAnswerOf, placeQuestions, pairAtQuestions, pairAtAnswerOf}
-use Rattle.tag.proofs.Fields.{Within, within-limit, numbers-tagWith}
-use Rattle.tag.proofs.Reading.{valid-reads, questions-valid, questions-refused}
-use Rattle.tag.proofs.Writing.{tagBytes-read}
-use Rattle.tag.proofs.TagFile.{lookup-found, part-found, lookup-position, length-tagFile, tagFile-lookup}
+use Rattle.tag_bytes.proofs.Fields.{Within, within-limit, numbers-tagWith}
+use Rattle.tag_bytes.proofs.Reading.{valid-reads, questions-valid, questions-refused}
+use Rattle.tag_bytes.proofs.Writing.{tagBytes-read}
+use Rattle.tag_bytes.proofs.TagFile.{lookup-found, part-found, lookup-position, length-tagFile, tagFile-lookup}
 
 -- The answer from two byte strings, by their readings.
 module _ (first second : List ℕ) where

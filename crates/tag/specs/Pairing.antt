@@ -7,12 +7,12 @@ use mathlib.Core.Bool.{Bool, true, cond, _&&_}
 use mathlib.Core.List.{List, [], _∷_, _++_}
 use lib.Dec.{eqb}
 use Rattle.interval_graph.specs.Numbers.{Numbers, Outcome, apart, no-chain, equal, outcome}
-use Rattle.wire.specs.Question.{Question, question, from, firstNo, positionQuestions}
+use Rattle.refusals.specs.Question.{Question, question, from, firstNo, positionQuestions}
 use Rattle.tag.specs.declared.pairs.PairAnswer.{PairAnswer}
 use Rattle.tag.specs.declared.pairs.PairAnswer.the-variants.{Handovers, NoChain, Refused}
-use Rattle.tag.specs.Fields.{tagOf, numbers}
-use Rattle.tag.specs.Reading.{readQuestions}
-use Rattle.tag.specs.TagFile.{tagCount, tagPart, tagFileQuestion}
+use Rattle.tag_bytes.specs.Fields.{tagOf, numbers}
+use Rattle.tag_bytes.specs.Reading.{readQuestions}
+use Rattle.tag_bytes.specs.TagFile.{tagCount, tagPart, tagFileQuestion}
 
 -- "two tags of equal component and equal rank agree in all fields"
 unfoldable pub agreeing : Numbers → Numbers → Bool

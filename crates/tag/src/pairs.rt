@@ -1,16 +1,16 @@
 // The answer from two tags alone: how many handovers lie between their windows.
-use crate::reader::Tag;
-use crate::reader::TagRead;
-use crate::tag_file::lookup;
-use wire::Asked;
-use wire::Refusal;
+use refusals::Asked;
+use refusals::Refusal;
+use tag_bytes::Tag;
+use tag_bytes::TagRead;
+use tag_bytes::lookup;
 ghost use mathlib.Core.Path.{_≡_};
 ghost use mathlib.Core.Bool.{true};
 ghost use Prim.Native.Nat.{_≤_};
 ghost use Rattle.interval_graph.specs.Numbers.{comesFirst};
 ghost use Rattle.interval_graph.specs.Numbers as rule;
-ghost use Rattle.wire.specs.Question.{askedOf};
-ghost use Rattle.tag.specs.Fields.{numbers, withinLimit, fieldLimit};
+ghost use Rattle.refusals.specs.Question.{askedOf};
+ghost use Rattle.tag_bytes.specs.Fields.{numbers, withinLimit, fieldLimit};
 ghost use Rattle.tag.specs.Pairing.{comparedOf, pairAnswerOf, placeQuestions, pairAtAnswerOf};
 
 pub enum PairAnswer {
@@ -122,7 +122,7 @@ pub fn ask_places(tags: &[u8], first: usize, second: usize) -> Asked
     if tags.len() % Tag::LENGTH != 0 {
         return Asked::Refused(Refusal::by(9));
     }
-    wire::ask_positions(first, second, tags.len() / Tag::LENGTH)
+    refusals::ask_positions(first, second, tags.len() / Tag::LENGTH)
 }
 
 // The answer from the tags at two positions of a tag file.

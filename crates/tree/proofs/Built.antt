@@ -21,8 +21,8 @@ use Rattle.interval_graph.proofs.Parent.{tree}
 use Rattle.interval_graph.proofs.Agreement.{root-test-agrees, depth-agrees, component-agrees, rank-agrees}
 use Rattle.interval_graph.proofs.Last.{last-below}
 use Rattle.interval_graph.proofs.Bounds.{numbers-small}
-use Rattle.wire.specs.declared.Refusal.{Refusal}
-use Rattle.wire.specs.Question.{Question, refusalBy, question, roomQuestion}
+use Rattle.refusals.specs.declared.Refusal.{Refusal}
+use Rattle.refusals.specs.Question.{Question, refusalBy, question, roomQuestion}
 use Rattle.plan.specs.declared.questions.Validation.{Validation}
 use Rattle.plan.specs.File.{planNumber, windowCount}
 use Rattle.plan.specs.Overlap.{overlaps}
@@ -31,10 +31,10 @@ use Rattle.plan.specs.AcceptedWindows.{AcceptedWindows}
 use Rattle.plan.specs.declared.questions.Validation.the-variants as Validation
 use Rattle.plan.proofs.Calls.{plan-refused, one-more-no, one-more-yes}
 use Rattle.plan.proofs.Counted.{windows-few, windows-order, validated-windows}
-use Rattle.tag.specs.Fields.{tagLength}
-use Rattle.tag.specs.TagFile.{tagFile}
-use Rattle.tag.proofs.Fields.{limit-within}
-use Rattle.tag.proofs.TagFile.{tagFile-cong}
+use Rattle.tag_bytes.specs.Fields.{tagLength}
+use Rattle.tag_bytes.specs.TagFile.{tagFile}
+use Rattle.tag_bytes.proofs.Fields.{limit-within}
+use Rattle.tag_bytes.proofs.TagFile.{tagFile-cong}
 use Rattle.forest.specs.Parents.{parentIn, lookedUp}
 use Rattle.forest.proofs.Parented.{held-parents}
 use Rattle.minutes.specs.declared.answers.TableAnswer.{TableAnswer}

@@ -2,8 +2,6 @@
 --   Plan12   the worked example, by computation
 --   Tagged   the pass that writes the tag file
 --   Built    what the passes of build leave for one another, and its answers
---   Reached  the last window of a component, reach, and its answers
 pub mod Plan12
 pub mod Tagged
 pub mod Built
-pub mod Reached

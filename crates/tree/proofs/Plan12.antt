@@ -4,20 +4,17 @@
 use mathlib.Core.Path.{_≡_, refl}
 use mathlib.Core.List.{[], _∷_}
 use Rattle.sequences.specs.Table.{table, overwritten}
-use Rattle.interval_graph.specs.Reach.{lastInComponent, reach}
-use Rattle.wire.specs.Question.{refusalBy, roomQuestion, positionQuestion}
+use Rattle.refusals.specs.Question.{refusalBy, roomQuestion}
 use Rattle.plan.proofs.Plan12.{file, meaning}
-use Rattle.tag.specs.Fields.{tagBytes}
-use Rattle.tag.specs.TagFile.{tagFile}
+use Rattle.tag_bytes.specs.Fields.{tagBytes}
+use Rattle.tag_bytes.specs.TagFile.{tagFile}
 use Rattle.tree.specs.declared.answers.BuildAnswer.the-variants.{Built, Refused}
-use Rattle.tree.specs.declared.answers.ReachAnswer.the-variants as ReachAnswer
 use Rattle.tree.specs.Tables.{componentOf, depthOf, rankOf, lastRankOf, componentCount, numbersAt}
 use Rattle.tree.specs.Build.{tablesFit, buildQuestions, buildAnswerOf, tagsQuestions, tagsAnswerOf, afterBuild, afterTags}
-use Rattle.tree.specs.Reach.{reachQuestions, reachAnswerOf}
 
 -- What a computation on the file opens.
 unfoldable answers : Unit {0}
-unfolding meaning lastInComponent reach roomQuestion positionQuestion overwritten tagBytes tagFile componentOf depthOf rankOf lastRankOf componentCount numbersAt tablesFit buildQuestions buildAnswerOf tagsQuestions tagsAnswerOf afterBuild afterTags reachQuestions reachAnswerOf
+unfolding meaning roomQuestion overwritten tagBytes tagFile componentOf depthOf rankOf lastRankOf componentCount numbersAt tablesFit buildQuestions buildAnswerOf tagsQuestions tagsAnswerOf afterBuild afterTags
 answers = tt
 
 pub plan-12-tables : table (componentOf file) 7 ∷ table (depthOf file) 7 ∷ table (rankOf file) 7 ∷ table (lastRankOf file) 7 ∷ []
@@ -43,9 +40,3 @@ pub plan-12-after : afterBuild (Built 12 2 1) (rankOf file) (9 ∷ 9 ∷ 9 ∷ [
     (Refused (refusalBy 8)) (numbersAt file) (9 ∷ []) ∷ [] ≡ (5 ∷ 0 ∷ 9 ∷ []) ∷ (9 ∷ []) ∷ (9 ∷ []) ∷ []
 unfolding answers
 plan-12-after = refl
-
--- "Reach in plan 12: 4 for position 0, 1 for position 6", and no position 7.
-pub plan-12-reach : reachAnswerOf file 0 ∷ reachAnswerOf file 6 ∷ reachAnswerOf file 7 ∷ []
-    ≡ ReachAnswer.Reach 4 ∷ ReachAnswer.Reach 1 ∷ ReachAnswer.Refused (refusalBy 7) ∷ []
-unfolding answers
-plan-12-reach = refl

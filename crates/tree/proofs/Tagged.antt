@@ -13,13 +13,13 @@ use borrow.Rule.Slice.PartMut.{putMid, post-is}
 use Rattle.sequences.specs.Table.{table, overwritten}
 use Rattle.sequences.proofs.Table.{length-overwritten}
 use Rattle.interval_graph.specs.Numbers.{Numbers}
-use Rattle.tag.specs.declared.writer.WriteAnswer.{WriteAnswer}
-use Rattle.tag.specs.declared.writer.WriteAnswer.the-variants.{Written}
-use Rattle.tag.specs.Fields.{tagLength, tagBytes, withinLimit}
-use Rattle.tag.specs.Writing.{writeAnswerOf, afterWrite}
-use Rattle.tag.specs.TagFile.{tagFile}
-use Rattle.tag.proofs.Writing.{write-written}
-use Rattle.tag.proofs.TagFile.{length-tagFile, tagFile-turn}
+use Rattle.tag_bytes.specs.declared.writer.WriteAnswer.{WriteAnswer}
+use Rattle.tag_bytes.specs.declared.writer.WriteAnswer.the-variants.{Written}
+use Rattle.tag_bytes.specs.Fields.{tagLength, tagBytes, withinLimit}
+use Rattle.tag_bytes.specs.Writing.{writeAnswerOf, afterWrite}
+use Rattle.tag_bytes.specs.TagFile.{tagFile}
+use Rattle.tag_bytes.proofs.Writing.{write-written}
+use Rattle.tag_bytes.proofs.TagFile.{length-tagFile, tagFile-turn}
 
 -- A part that goes to the end of a list is what is left from its start on, and put back it is all that follows there.
 part-to-end : (a : ℕ) (l : List ℕ) → take (length l - a) (drop a l) ≡ drop a l

@@ -7,11 +7,11 @@ use mathlib.Core.List.{List, [], _∷_, _++_}
 use lib.Dec.{leb}
 use Rattle.sequences.specs.Table.{table, overwritten}
 use Rattle.interval_graph.specs.Numbers.{Numbers}
-use Rattle.wire.specs.Question.{Question, question, roomQuestion, firstNo}
+use Rattle.refusals.specs.Question.{Question, question, roomQuestion, firstNo}
 use Rattle.plan.specs.File.{planNumber, windowCount}
 use Rattle.plan.specs.Validation.{planQuestions}
-use Rattle.tag.specs.Fields.{tagLength}
-use Rattle.tag.specs.TagFile.{tagFile}
+use Rattle.tag_bytes.specs.Fields.{tagLength}
+use Rattle.tag_bytes.specs.TagFile.{tagFile}
 use Rattle.tree.specs.declared.answers.BuildAnswer.{BuildAnswer}
 use Rattle.tree.specs.declared.answers.BuildAnswer.the-variants.{Built, Refused}
 use Rattle.tree.specs.Tables.{componentCount}

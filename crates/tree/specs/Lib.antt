@@ -1,11 +1,7 @@
 -- The tree's tables and what the calls of this crate answer. In reading order:
 --   Tables       the numbers of the window at each position of a plan file
 --   Build        build: the answer, and each table afterwards
---   Reach        reach
 --   Tagging      the tag file from the tables of its numbers; no public promise cites it
---   Passes       what the search behind reach finds; no public promise cites it
 pub mod Tables
 pub mod Build
-pub mod Reach
 pub mod Tagging
-pub mod Passes

@@ -6,7 +6,7 @@ use mathlib.Core.Path.{_≡_}
 use mathlib.Core.List.{List}
 use lib.ListN.{length, getD}
 use Rattle.interval_graph.specs.Numbers.{Numbers}
-use Rattle.tag.specs.Fields.{withinLimit}
+use Rattle.tag_bytes.specs.Fields.{withinLimit}
 
 -- The five numbers of the window at a position, by the plan's number and four tables.
 abbrev pub numbersIn : (plan : ℕ) → (components depths ranks lastRanks : List ℕ) → ℕ → Numbers

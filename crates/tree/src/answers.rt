@@ -1,5 +1,5 @@
 // What the calls of this crate answer.
-use wire::Refusal;
+use refusals::Refusal;
 
 // All tables and the tag file: the plan number, how many windows there are, and how many components.
 pub enum BuildAnswer {
@@ -8,11 +8,5 @@ pub enum BuildAnswer {
         windows: u16,
         components: u16,
     },
-    Refused(Refusal),
-}
-
-// The reach of a position's component.
-pub enum ReachAnswer {
-    Reach(u16),
     Refused(Refusal),
 }

@@ -3,7 +3,7 @@ use crate::answers::BuildAnswer;
 use crate::tagging::write_tags;
 use minutes::TableAnswer;
 use plan::GREATEST_COUNT;
-use tag::Tag;
+use tag_bytes::Tag;
 ghost use mathlib.Core.Path.{_≡_};
 ghost use Prim.Native.Nat.{min};
 ghost use lib.ListN.{length};

@@ -1,11 +1,11 @@
 // The tag file: the tags of the windows in order of position, from the tables of their numbers.
-use tag::Tag;
+use tag_bytes::Tag;
 ghost use mathlib.Core.Path.{_≡_};
 ghost use Prim.Native.Nat.{_*_, _≤_};
 ghost use lib.ListN.{length};
 ghost use Rattle.sequences.specs.Table.{overwritten};
-ghost use Rattle.tag.specs.Fields.{tagLength};
-ghost use Rattle.tag.specs.TagFile.{tagFile};
+ghost use Rattle.tag_bytes.specs.Fields.{tagLength};
+ghost use Rattle.tag_bytes.specs.TagFile.{tagFile};
 ghost use Rattle.tree.specs.Tagging.{numbersIn, Numbered};
 
 pub(crate) fn write_tags(
@@ -24,7 +24,7 @@ pub(crate) fn write_tags(
     let mut position = 0;
     while position < windows {
         let at = Tag::LENGTH * position;
-        tag::write(
+        tag_bytes::write(
             plan,
             components[position],
             depths[position],

@@ -5,7 +5,7 @@ use mathlib.Core.Path.{sym, _∙_}
 use native.Mathlib.Omega.{arith}
 use lib.Seq.{length-take-le}
 use Rattle.plan.proofs.Counted.{windows-few}
-use Rattle.tag.specs.Fields.{tagLength}
+use Rattle.tag_bytes.specs.Fields.{tagLength}
 use Rattle.demands.proofs.Running.{running-refused, running-windows, running-paired}
 use borrow.Author.Needs.{needs}
 use Rattle.demands.proofs.end_to_end.pair_from_plan.Statement.{statement}

@@ -3,7 +3,7 @@
 -- Assumes nothing.
 use mathlib.Core.Path.{refl, sym, _∙_}
 use native.Mathlib.Omega.{arith}
-use Rattle.wire.proofs.Question.{passed-within}
+use Rattle.refusals.proofs.Question.{passed-within}
 use Rattle.plan.specs.Validation.{greatestCount}
 use Rattle.minutes.proofs.SingleTabled.{tabled, table-refuses}
 use Rattle.path.specs.Chain.{afterChain}

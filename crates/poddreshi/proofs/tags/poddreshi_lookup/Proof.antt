@@ -4,7 +4,7 @@
 use mathlib.Core.Path.{sym, ap, _∙_}
 use mathlib.Core.Logic.{⊎-elim}
 use native.Mathlib.Omega.{arith}
-use Rattle.tag.proofs.TagFile.{found-within}
+use Rattle.tag_bytes.proofs.TagFile.{found-within}
 use Rattle.packing.specs.Packing.{packedLookup}
 use Rattle.poddreshi.specs.Lent.{offsetAfter}
 use borrow.Author.Needs.{needs}

@@ -1,8 +1,8 @@
 -- `tag::pairs::ask_places` meets its contract: the file's length is asked for, then each position.
 -- Assumes nothing.
 use mathlib.Core.Path.{ap, _∙_}
-use Rattle.wire.specs.declared.Asked.the-variants.{Refused}
-use Rattle.tag.specs.TagFile.{tagCount}
+use Rattle.refusals.specs.declared.Asked.the-variants.{Refused}
+use Rattle.tag_bytes.specs.TagFile.{tagCount}
 use Rattle.tag.proofs.Pairing.{places-9, places-whole}
 use borrow.Author.Needs.{needs}
 use Rattle.tag.proofs.pairs.ask_places.Statement.{statement}

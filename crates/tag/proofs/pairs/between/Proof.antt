@@ -5,7 +5,7 @@ use mathlib.Core.Logic.{inl, inr, ⊎-elim}
 use native.Mathlib.Omega.{arith}
 use borrow.Author.Tests.{ltb-true, ltb-false}
 use Rattle.interval_graph.proofs.Outcome.{between-rising-near, between-rising-far, between-falling-near, between-falling-far}
-use Rattle.tag.specs.Fields.{numbers}
+use Rattle.tag_bytes.specs.Fields.{numbers}
 use borrow.Author.Needs.{needs}
 use Rattle.tag.proofs.pairs.between.Statement.{statement}
 use Rattle.tag.proofs.pairs.between.Tie as tie

@@ -2,7 +2,7 @@
 -- Assumes nothing.
 use borrow.Author.Tests.{lt-ltb, le-ltb, eq-eqb, ne-eqb}
 use Rattle.interval_graph.specs.Numbers.{comesFirst}
-use Rattle.tag.specs.Fields.{numbers}
+use Rattle.tag_bytes.specs.Fields.{numbers}
 use Rattle.tag.proofs.pairs.comes_first.Statement.{statement}
 use Rattle.tag.proofs.pairs.comes_first.Tie as tie
 

@@ -3,8 +3,8 @@
 use mathlib.Core.Path.{sym, ap, _∙_}
 use Rattle.interval_graph.proofs.Outcome.{comesFirst-depth, comesFirst-not-depth}
 use Rattle.tag.specs.declared.pairs.PairAnswer.the-variants.{Handovers}
-use Rattle.tag.specs.Fields.{numbers}
-use Rattle.tag.proofs.Fields.{within-limit}
+use Rattle.tag_bytes.specs.Fields.{numbers}
+use Rattle.tag_bytes.proofs.Fields.{within-limit}
 use Rattle.tag.proofs.Pairing.{compared-11, compared-components, compared-first, compared-second}
 use borrow.Author.Needs.{needs}
 use Rattle.tag.proofs.pairs.compare.Statement.{statement}

@@ -2,7 +2,7 @@
 -- Assumes nothing.
 use mathlib.Core.Path.{sym, _∙_}
 use borrow.Author.Tests.{not-true, not-false}
-use Rattle.tag.specs.Fields.{numbers}
+use Rattle.tag_bytes.specs.Fields.{numbers}
 use Rattle.tag.proofs.Pairing.{compared-12, compared-equal}
 use borrow.Author.Needs.{needs}
 use Rattle.tag.proofs.pairs.one_window.Statement.{statement}

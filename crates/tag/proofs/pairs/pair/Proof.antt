@@ -3,10 +3,10 @@
 -- Assumes nothing.
 use mathlib.Core.Path.{_≡_, sym, ap, _∙_}
 use denote.Ref.{now}
-use Rattle.tag.specs.declared.reader.TagRead.the-variants.{Valid}
+use Rattle.tag_bytes.specs.declared.reader.TagRead.the-variants.{Valid}
 use Rattle.tag.specs.declared.pairs.PairAnswer.the-variants.{Refused}
-use Rattle.tag.specs.Reading.{readAnswerOf, refusalOf}
-use Rattle.tag.proofs.Reading.{valid-reads}
+use Rattle.tag_bytes.specs.Reading.{readAnswerOf, refusalOf}
+use Rattle.tag_bytes.proofs.Reading.{valid-reads}
 use Rattle.tag.proofs.Pairing.{pair-first-refused, pair-second-refused, pair-valid}
 use borrow.Author.Needs.{needs}
 use Rattle.tag.proofs.pairs.pair.Statement.{statement}

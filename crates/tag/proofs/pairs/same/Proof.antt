@@ -2,7 +2,7 @@
 -- Assumes nothing.
 use borrow.Author.Tests.{eq-eqb, ne-eqb}
 use Rattle.interval_graph.specs.Numbers.{equal}
-use Rattle.tag.specs.Fields.{numbers}
+use Rattle.tag_bytes.specs.Fields.{numbers}
 use Rattle.tag.proofs.pairs.same.Statement.{statement}
 use Rattle.tag.proofs.pairs.same.Tie as tie
 

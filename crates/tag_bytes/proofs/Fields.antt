@@ -1,0 +1,99 @@
+-- Laws of a tag's numbers and its bytes: both ways round, and what the limit of the fields says.
+-- Vocabulary: Within, within-limit, limit-within, length-tagBytes, tagOf-fields, tagOf-tagBytes, tagBytes-tagOf.
+-- Assumes nothing.
+use Prim.Native.Nat.{ℕ, _+_, _*_, _/_, _%_, _≤_, _<_}
+use mathlib.Core.Bool.{true, false}
+use mathlib.Core.Path.{_≡_, refl, sym, _∙_}
+use mathlib.Core.List.{List, _++_}
+use native.Mathlib.Omega.{arith}
+use lib.ListN.{length, getD, take, drop}
+use lib.Seq.{take-all, take-add, drop-drop}
+use lib.Dec.{leb}
+use borrow.Author.Tests.{leb-true, le-leb, lt-leb}
+use Rattle.sequences.proofs.Tests.{and-left, and-right}
+use Rattle.interval_graph.specs.Numbers.{Numbers}
+use Rattle.wire.specs.LittleEndian.{le16, bytes16}
+use Rattle.wire.proofs.LittleEndian.{bytes16-at}
+use Rattle.tag_bytes.specs.Fields.{tagLength, fieldLimit, field, tagOf, numbers, tagWith, tagBytes, withinLimit}
+
+-- The fields after the plan number are at most the limit.
+pub record Within (n : Numbers) : Type 0 where
+  pub component : n .component ≤ fieldLimit
+  pub depth : n .depth ≤ fieldLimit
+  pub rank : n .rank ≤ fieldLimit
+  pub last : n .last ≤ fieldLimit
+
+-- The test says so of every field.
+pub within-limit : (n : Numbers) → withinLimit n ≡ true → Within n
+unfolding withinLimit
+within-limit n t =
+    let after = and-right (leb (n .component) fieldLimit) _ t in
+    let later = and-right (leb (n .depth) fieldLimit) _ after in
+    record {
+      component = leb-true _ _ (and-left (leb (n .component) fieldLimit) _ t);
+      depth = leb-true _ _ (and-left (leb (n .depth) fieldLimit) _ after);
+      rank = leb-true _ _ (and-left (leb (n .rank) fieldLimit) _ later);
+      last = leb-true _ _ (and-right (leb (n .rank) fieldLimit) _ later);
+    }
+
+-- The test, field after field, as it is made.
+module _ (n : Numbers) where
+  -- A component past the limit decides.
+  pub component-over : fieldLimit < n .component → false ≡ withinLimit n
+  unfolding withinLimit
+  component-over over = rw (lt-leb _ _ over)
+
+  -- Else a depth past it does.
+  pub depth-over : n .component ≤ fieldLimit → fieldLimit < n .depth → false ≡ withinLimit n
+  unfolding withinLimit
+  depth-over c over = rw (le-leb _ _ c, lt-leb _ _ over)
+
+  -- Else a rank past it does.
+  pub rank-over : n .component ≤ fieldLimit → n .depth ≤ fieldLimit → fieldLimit < n .rank → false ≡ withinLimit n
+  unfolding withinLimit
+  rank-over c d over = rw (le-leb _ _ c, le-leb _ _ d, lt-leb _ _ over)
+
+  -- Else the rank of the last decides.
+  pub last-decides : n .component ≤ fieldLimit → n .depth ≤ fieldLimit → n .rank ≤ fieldLimit → leb (n .last) fieldLimit ≡ withinLimit n
+  unfolding withinLimit
+  last-decides c d r = rw (le-leb _ _ c, le-leb _ _ d, le-leb _ _ r)
+
+-- Fields within the limit pass the test.
+pub limit-within : (n : Numbers) → Within n → withinLimit n ≡ true
+limit-within n w = sym (last-decides n (w .component) (w .depth) (w .rank)) ∙ le-leb _ _ (w .last)
+
+-- Five numbers that are those of the fields are the tag.
+pub tagOf-fields : (bytes : List ℕ) (plan component depth rank last : ℕ) → plan ≡ field bytes 0 → component ≡ field bytes 1 → depth ≡ field bytes 2 → rank ≡ field bytes 3 → last ≡ field bytes 4 → record { plan = plan; component = component; depth = depth; rank = rank; last = last } ≡ tagOf bytes
+unfolding tagOf
+tagOf-fields bytes plan component depth rank last p c d r l = rw (p, c, d, r, l)
+
+-- A tag has as many bytes as its figure says.
+pub length-tagBytes : (n : Numbers) → length (tagBytes n) ≡ tagLength
+unfolding tagBytes bytes16
+length-tagBytes n = refl
+
+-- The bytes of a tag hold its numbers.
+pub tagOf-tagBytes : (n : Numbers) → tagOf (tagBytes n) ≡ tagWith n
+unfolding tagOf field le16 tagBytes bytes16 tagWith
+tagOf-tagBytes n = rw (whole (n .plan), whole (n .component), whole (n .depth), whole (n .rank), whole (n .last))
+  where
+    whole : (x : ℕ) → x % 256 + 256 * (x / 256) ≡ x
+    whole x = omega arith
+
+-- The tag with given numbers has those numbers.
+pub numbers-tagWith : (n : Numbers) → numbers (tagWith n) ≡ n
+unfolding numbers tagWith
+numbers-tagWith n = refl
+
+-- As many bytes as a tag has, written from the numbers that they hold, are the same bytes.
+pub tagBytes-tagOf : (bytes : List ℕ) → ((i : ℕ) → getD bytes i 0 < 256) → length bytes ≡ tagLength → tagBytes (numbers (tagOf bytes)) ≡ bytes
+unfolding tagBytes numbers tagOf field
+tagBytes-tagOf bytes small long =
+    rw (two 0 (omega arith), two 2 (omega arith), two 4 (omega arith), two 6 (omega arith), two 8 (omega arith))
+    (rw (joined 6 2, joined 4 4, joined 2 6, joined 0 8) (take-all 10 bytes (omega arith)))
+  where
+    two : (at : ℕ) → at + 2 ≤ length bytes → bytes16 (le16 bytes at) ≡ take 2 (drop at bytes)
+    two at h = bytes16-at bytes at small h
+
+    joined : (at k : ℕ) → take 2 (drop at bytes) ++ take k (drop (at + 2) bytes) ≡ take (2 + k) (drop at bytes)
+    joined at k = rw (take-add 2 k (drop at bytes), drop-drop 2 at bytes)
