@@ -46,7 +46,7 @@ reach-answered file ok at h =
 pub reach-bounds : ReachBounds
 reach-bounds file ok at bound h e u v k hu hv p q least =
     let same : bound ≡ reach (windowCount file) (overlaps file) at = cc (reach-answered file ok at h) in
-    rw same (reach-bound (interval-order file ok) at u v k h hu hv p q least)
+    omega (arith, reach-bound (interval-order file ok) at u v k h hu hv p q least)
 
 -- The numbers with 0 for the plan number.
 unplanned : Numbers → Numbers

@@ -178,7 +178,8 @@ module _ (file : List ℕ) (ok : AcceptedPlan file) (u v : ℕ) (hu : u < window
           count-given = λ j. (handovers (chainBetween file u v), counting _ .1 (chain-least order u v hu hv j));
           not-refused = λ r e. outcome-answered _ r (sym same ∙ e);
           chain-given = given;
-          chain-counted = λ entries k e f. rw (written entries e) (sym (least-is-chain order u v k hu hv (counting k .0 f)));
+          chain-counted =
+              λ entries k e f. omega (arith, ap handovers (written entries e), least-is-chain order u v k hu hv (counting k .0 f));
           chain-from-later = λ entries e. rw (written entries e) (chain-first order u v hu hv (joined entries e));
           chain-earliest = λ entries e. rw (written entries e) (chain-earliest-shortest order u v hu hv (joined entries e));
           tags-apart = (λ e. apart-rule .0 (answer-none _ .0 (sym same ∙ e)), λ none. same ∙ answer-none _ .1 (apart-rule .1 none));

@@ -2,10 +2,10 @@
 -- points behind.
 -- Assumes nothing.
 use Prim.Native.Nat.{ℕ, _≤_, _<_, min}
-use mathlib.Core.Path.{_≡_}
-use mathlib.Core.List.{List}
+use mathlib.Core.Path.{_≡_, refl}
+use mathlib.Core.List.{List, [], _∷_}
 use native.Mathlib.Omega.{arith}
-use Rattle.sequences.specs.Table.{Holds}
+use Rattle.sequences.specs.Table.{table, Holds}
 use Rattle.interval_graph.specs.Forest.{Forest}
 use Rattle.plan.specs.Validation.{greatestCount}
 use Rattle.forest.specs.Parents.{parentIn, covered}
@@ -13,6 +13,11 @@ use Rattle.forest.specs.Parents.{parentIn, covered}
 pub table-forest : (parents : List ℕ) → Forest (parentIn parents)
 unfolding parentIn
 table-forest parents = record { parent-le = λ v. omega arith }
+
+-- An entry behind its window, and one past the table's end, computed.
+pub parents-read : table (parentIn (3 ∷ 0 ∷ 1 ∷ [])) 4 ≡ 0 ∷ 0 ∷ 1 ∷ 0 ∷ []
+unfolding table parentIn
+parents-read = refl
 
 -- A table that holds the parents of a forest gives that forest.
 pub held-parents : {parent : ℕ → ℕ} → Forest parent → (n : ℕ) (parents : List ℕ) → Holds parents parent n → (v : ℕ) → v < n → parentIn parents v ≡ parent v
