@@ -37,7 +37,8 @@ use Rattle.demands.specs.EndToEnd.{tagAt}
 use Rattle.demands.specs.Calls.{ReachBounds, SameOverlap, Sameness}
 
 -- For a window of an accepted plan the call answers with the theory's reach.
-reach-answered : (file : List ℕ) → AcceptedPlan file → (at : ℕ) → at < windowCount file → reachAnswerOf file at ≡ ReachAnswer.Reach (reach (windowCount file) (overlaps file) at)
+reach-answered : (file : List ℕ) → AcceptedPlan file → (at : ℕ) → at < windowCount file →
+    reachAnswerOf file at ≡ ReachAnswer.Reach (reach (windowCount file) (overlaps file) at)
 unfolding reachAnswerOf reachQuestions positionQuestion question firstNo
 reach-answered file ok at h =
     sym (plan-accepted file _ ReachAnswer.Refused _ (validateAnswerOf file) refl _ _ (accepted-validated file ok))
@@ -63,7 +64,8 @@ numbers-equal m n e =
     sym (tagOf-tagBytes (unplanned m))
     ∙ (ap tagOf (unplanned-bytes m ∙ (ap (λ (l : List ℕ). bytes16 0 ++ l) e ∙ sym (unplanned-bytes n))) ∙ tagOf-tagBytes (unplanned n))
 
-bytes-equal : (m n : Numbers) → m .component ≡ n .component → m .depth ≡ n .depth → m .rank ≡ n .rank → m .last ≡ n .last → drop 2 (tagBytes m) ≡ drop 2 (tagBytes n)
+bytes-equal : (m n : Numbers) → m .component ≡ n .component → m .depth ≡ n .depth → m .rank ≡ n .rank → m .last ≡ n .last →
+    drop 2 (tagBytes m) ≡ drop 2 (tagBytes n)
 unfolding tagBytes bytes16
 bytes-equal m n c d r l = rw (c, d, r, l)
 
@@ -73,14 +75,16 @@ tag-bytes file v h = tagFile-lookup (numbersAt file) (windowCount file) v h
 
 module _ (first second : List ℕ) (count : windowCount first ≡ windowCount second) where
   -- Where the numbers agree, so do the bytes, and conversely.
-  tags-agree : SameNumbers (windowCount first) (overlaps first) (overlaps second) → (v : ℕ) → v < windowCount first → drop 2 (tagAt first v) ≡ drop 2 (tagAt second v)
+  tags-agree : SameNumbers (windowCount first) (overlaps first) (overlaps second) → (v : ℕ) → v < windowCount first →
+      drop 2 (tagAt first v) ≡ drop 2 (tagAt second v)
   unfolding numbersAt numbersOf
   tags-agree s v h =
       rw (tag-bytes first v h, tag-bytes second v (rw (← count) h))
       (bytes-equal (numbersAt first v) (numbersAt second v) (s .components v h) (s .depths v h)
       (s .ranks v h ∙ ap (λ n. rank n (overlaps second) v) count) (s .lasts v h ∙ ap (λ n. lastRank n (overlaps second) v) count))
 
-  numbers-agree : ((v : ℕ) → v < windowCount first → drop 2 (tagAt first v) ≡ drop 2 (tagAt second v)) → SameNumbers (windowCount first) (overlaps first) (overlaps second)
+  numbers-agree : ((v : ℕ) → v < windowCount first → drop 2 (tagAt first v) ≡ drop 2 (tagAt second v)) →
+      SameNumbers (windowCount first) (overlaps first) (overlaps second)
   unfolding numbersAt numbersOf tagWith unplanned
   numbers-agree tags =
       record {

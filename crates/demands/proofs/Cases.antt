@@ -66,7 +66,8 @@ tests [] = true
 tests (c ∷ l) = test c && tests l
 
 -- What the definitions compute is what a case says.
-case-says : (file : List ℕ) → AcceptedPlan file → (u v : ℕ) → u < windowCount file → v < windowCount file → (e : Outcome) → outcome (numbersOf (windowCount file) (overlaps file) 0 u) (numbersOf (windowCount file) (overlaps file) 0 v) ≡ e → Says file u v e
+case-says : (file : List ℕ) → AcceptedPlan file → (u v : ℕ) → u < windowCount file → v < windowCount file → (e : Outcome) →
+    outcome (numbersOf (windowCount file) (overlaps file) 0 u) (numbersOf (windowCount file) (overlaps file) 0 v) ≡ e → Says file u v e
 case-says file ok u v hu hv (apart k) o = outcome-apart (interval-order file ok) u v 0 k hu hv .0 o
 case-says file ok u v hu hv no-chain o = outcome-no-chain (interval-order file ok) u v 0 hu hv .0 o
 

@@ -18,7 +18,8 @@ use Rattle.interval_graph.specs.Tree.{root, component, rank}
 use Rattle.interval_graph.specs.Numbers.{numbersOf, Outcome, apart, no-chain, outcome}
 use Rattle.interval_graph.proofs.Outcome.{equal-refl}
 use Rattle.interval_graph.proofs.Rule.{outcome-apart, outcome-no-chain, same-window}
-use Rattle.interval_graph.proofs.ShortestChain.{chain-least, chain-earliest-shortest, chain-first, least-is-chain, chain-empty-iff-apart, root-joined, joined-root}
+use Rattle.interval_graph.proofs.ShortestChain.{chain-least, chain-earliest-shortest, chain-first}
+use Rattle.interval_graph.proofs.ShortestChain.{least-is-chain, chain-empty-iff-apart, root-joined, joined-root}
 use Rattle.refusals.specs.Question.{refusalBy, question, from, firstNo, positionQuestion, positionQuestions, roomQuestion}
 use Rattle.plan.specs.File.{planNumber, windowCount}
 use Rattle.plan.specs.Overlap.{overlaps}
@@ -77,20 +78,25 @@ module _ (file : List ℕ) (ok : AcceptedPlan file) (u v : ℕ) (hu : u < window
   agree : agreeing (numbersAt file u) (numbersAt file v) ≡ true
   unfolding agreeing numbersAt numbersOf
   agree =
-      cond-cases (λ b. b ≡ true) (eqb (component (overlaps file) u) (component (overlaps file) v) && eqb (rank (windowCount file) (overlaps file) u) (rank (windowCount file) (overlaps file) v))
+      cond-cases (λ b. b ≡ true) (eqb (component (overlaps file) u) (component (overlaps file) v) && eqb (rank (windowCount file) (overlaps file) u)
+      (rank (windowCount file) (overlaps file) v))
       (λ t.
-      let one : u ≡ v = same-window order u v hu hv (eqb-true _ _ (and-left _ _ t)) (eqb-true _ _ (and-right (eqb (component (overlaps file) u) (component (overlaps file) v)) _ t)) in
+      let one : u ≡ v = same-window order u v hu hv (eqb-true _ _ (and-left _ _ t))
+      (eqb-true _ _ (and-right (eqb (component (overlaps file) u) (component (overlaps file) v)) _ t)) in
       rw one (equal-refl (numbersAt file v))) (λ t. refl)
 
   -- So the answer from the two tags is what the rule says.
-  pair-rule : pairAnswerOf (tagAt file u) (tagAt file v) ≡ answerOf (outcome (numbersOf (windowCount file) (overlaps file) (planNumber file) u) (numbersOf (windowCount file) (overlaps file) (planNumber file) v))
+  pair-rule : pairAnswerOf (tagAt file u) (tagAt file v)
+      ≡ answerOf (outcome (numbersOf (windowCount file) (overlaps file) (planNumber file) u)
+      (numbersOf (windowCount file) (overlaps file) (planNumber file) v))
   unfolding tagAt numbersAt numbersOf comparedOf compareQuestions question from firstNo
   pair-rule =
       pair-tagFile (numbersAt file) (windowCount file) u v hu hv (window-within file ok u hu) (window-within file ok v hv)
       ∙ rw (eq-eqb (planNumber file) (planNumber file) refl, agree)
 
   -- The chain call asks only for room.
-  chain-asked : (room : ℕ) → chainAnswerOf file u v room ≡ firstNo (roomQuestion (length (chainBetween file u v)) room ∷ []) ChainAnswer.Refused (chainFound (chainBetween file u v))
+  chain-asked : (room : ℕ) → chainAnswerOf file u v room
+      ≡ firstNo (roomQuestion (length (chainBetween file u v)) room ∷ []) ChainAnswer.Refused (chainFound (chainBetween file u v))
   unfolding chainAnswerOf chainQuestions positionQuestions positionQuestion question from firstNo
   chain-asked room =
       sym (plan-accepted file _ ChainAnswer.Refused (chainFound (chainBetween file u v)) (validateAnswerOf file) refl _ _ (accepted-validated file ok))
@@ -110,7 +116,8 @@ module _ (file : List ℕ) (ok : AcceptedPlan file) (u v : ℕ) (hu : u < window
   empty-apart = chain-empty-iff-apart order u v hu hv
 
   -- What is answered, and the table afterwards.
-  module _ (before out : List ℕ) (pair : PairAnswer) (chain : ChainAnswer) (paired : pair ≡ pairAnswerOf (tagAt file u) (tagAt file v)) (chained : chain ≡ chainAnswerOf file u v (length before)) (after : out ≡ afterChain chain (chainBetween file u v) before) where
+  module _ (before out : List ℕ) (pair : PairAnswer) (chain : ChainAnswer) (paired : pair ≡ pairAnswerOf (tagAt file u) (tagAt file v))
+      (chained : chain ≡ chainAnswerOf file u v (length before)) (after : out ≡ afterChain chain (chainBetween file u v) before) where
     counting : (k : ℕ) → (pair ≡ PairAnswer.Handovers k) ↔ LeastHandovers (windowCount file) (overlaps file) u v k
     counting k =
         let rule = outcome-apart order u v (planNumber file) k hu hv in
@@ -163,7 +170,8 @@ module _ (file : List ℕ) (ok : AcceptedPlan file) (u v : ℕ) (hu : u < window
     unfolding afterChain
     given k e room =
         ⊎-elim
-        (λ t. roomy (leb-true _ _ t) ∙ (found-some (chainBetween file u v) (λ none. absurd (omega (arith, chain-long k e, ap (length {A = ℕ}) none))) ∙ ap ChainAnswer.Chain (chain-long k e)))
+        (λ t. roomy (leb-true _ _ t) ∙ (found-some (chainBetween file u v) (λ none. absurd (omega (arith, chain-long k e, ap (length {A = ℕ}) none)))
+        ∙ ap ChainAnswer.Chain (chain-long k e)))
         (λ t. let left : out ≡ before = rw (chained ∙ chain-short (length before) t) at after in
         absurd (omega (arith, leb-false (length (chainBetween file u v)) (length before) t, chain-long k e, ap (length {A = ℕ}) left)))
         (truth (leb (length (chainBetween file u v)) (length before)))

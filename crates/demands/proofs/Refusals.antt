@@ -39,7 +39,8 @@ use Rattle.demands.specs.Refusals.{FirstNo, here, there, Refuses, Demand
 
 -- An answer by `firstNo` is a refusal exactly if that is the first "no", where what is accepted is no refusal and a refusal can be
 -- told from its answer.
-module _ {A : Type 0} (refused : Refusal → A) (accepted : A) (tells : (r s : Refusal) → refused r ≡ refused s → r ≡ s) (apart : (r : Refusal) → accepted ≡ refused r → ⊥) where
+module _ {A : Type 0} (refused : Refusal → A) (accepted : A) (tells : (r s : Refusal) → refused r ≡ refused s → r ≡ s)
+    (apart : (r : Refusal) → accepted ≡ refused r → ⊥) where
   sound : (qs : List Question) (r : Refusal) → firstNo qs refused accepted ≡ refused r → FirstNo qs r
   unfolding firstNo
   sound [] r e = absurd (apart r e)
@@ -85,7 +86,8 @@ demand-1 =
       writing = λ n out. refuses WriteAnswer.Refused _ (λ r s e. cc) (λ r e. let z : _≡_ {A = ℕ} 0 1 = cc in omega arith) _;
       looking-up = λ tags at. refuses LookupAnswer.Refused _ (λ r s e. cc) (λ r e. let z : _≡_ {A = ℕ} 0 1 = cc in omega arith) _;
       pairing = λ first second. refuses PairAnswer.Refused _ (λ r s e. cc) (outcome-answered (outcome (numbers (tagOf first)) (numbers (tagOf second)))) _;
-      pairing-at = λ tags first second. refuses PairAnswer.Refused _ (λ r s e. cc) (outcome-answered (outcome (numbers (tagOf (tagPart tags first))) (numbers (tagOf (tagPart tags second))))) _;
+      pairing-at = λ tags first second. refuses PairAnswer.Refused _ (λ r s e. cc)
+          (outcome-answered (outcome (numbers (tagOf (tagPart tags first))) (numbers (tagOf (tagPart tags second))))) _;
       build-untouched = λ r f before. refl;
       tags-untouched = λ r f before. refl;
       table-untouched = λ r f before. refl;

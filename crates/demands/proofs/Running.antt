@@ -68,17 +68,20 @@ module _ (file : List ℕ) (room : ℕ) (enough : tagLength * greatestCount ≤ 
           built-by (validateAnswerOf file) plan windows count refl (sym e ∙ (answered ∙ by-validation (validateAnswerOf file) refl))
 
       -- The front of the table is the plan's tag file.
-      pub running-paired : (before tags : List ℕ) → tags ≡ afterTags answer (numbersAt file) before → pairAtAnswerOf (take (tagLength * windows) tags) first second ≡ pairFromPlan file first second
+      pub running-paired : (before tags : List ℕ) → tags ≡ afterTags answer (numbersAt file) before →
+          pairAtAnswerOf (take (tagLength * windows) tags) first second ≡ pairFromPlan file first second
       unfolding pairFromPlan afterTags tagAt
       running-paired before tags after =
           let p = running-windows in
           let filled : tags ≡ overwritten before (tagFile (numbersAt file) windows) = rw e at after in
-          let front : take (tagLength * windows) tags ≡ tagFile (numbersAt file) windows = rw (filled, ← length-tagFile (numbersAt file) windows) (take-overwritten before (tagFile (numbersAt file) windows)) in
+          let front : take (tagLength * windows) tags ≡ tagFile (numbersAt file) windows = rw (filled, ← length-tagFile (numbersAt file) windows)
+          (take-overwritten before (tagFile (numbersAt file) windows)) in
           rw front (pair-at-tagFile (numbersAt file) windows first second
           ∙ (rw (p .counted) (plan-accepted file _ PairAnswer.Refused _ (validateAnswerOf file) refl _ _ (accepted-validated file (p .accepted)))))
 
 -- Of the positions of two windows of an accepted plan the tags answer.
-pub paired-windows : (file : List ℕ) → AcceptedPlan file → (u v : ℕ) → u < windowCount file → v < windowCount file → pairFromPlan file u v ≡ pairAnswerOf (tagAt file u) (tagAt file v)
+pub paired-windows : (file : List ℕ) → AcceptedPlan file → (u v : ℕ) → u < windowCount file → v < windowCount file →
+    pairFromPlan file u v ≡ pairAnswerOf (tagAt file u) (tagAt file v)
 unfolding pairFromPlan positionQuestions positionQuestion question from firstNo
 paired-windows file ok u v hu hv =
     sym (plan-accepted file _ PairAnswer.Refused _ (validateAnswerOf file) refl _ _ (accepted-validated file ok))

@@ -58,7 +58,9 @@ pub demand-2 : Demand2
 unfolding tagAt numbersAt afterWrite overwritten
 demand-2 =
     record {
-      tree = λ file ok p c d r l t hp hc hd hr hl ht. built file _ (sym (build-built file p c d r l t (validateAnswerOf file) refl _ _ (accepted-validated file ok) _ _ refl (rooms (windowCount file) p c d r l t hp hc hd hr hl ht) refl));
+      tree = λ file ok p c d r l t hp hc hd hr hl ht. built file _
+          (sym (build-built file p c d r l t (validateAnswerOf file) refl _ _ (accepted-validated file ok) _ _ refl
+          (rooms (windowCount file) p c d r l t hp hc hd hr hl ht) refl));
       tags = λ file ok v h. rw (tagFile-lookup (numbersAt file) (windowCount file) v h) (tagBytes-read (numbersAt file v) (window-within file ok v h));
       reads-back = written-reads-back;
       writes-back = λ bytes t out small e room. rw (read-accepted bytes t out e room, length-tagBytes (numbers t), read-tagBytes bytes t small e);

@@ -28,7 +28,8 @@ unfolding parentOf
 parented {file} {windows} {parents} t = record { accepted = t .plan .accepted; held = rw (t .plan .counted) at (t .held) }
 
 module _ (file : List ℕ) (first second room : ℕ) where
-  pub chain-refused : (refusal : Refusal) → validateAnswerOf file ≡ Validation.Refused refusal → ChainAnswer.Refused refusal ≡ chainAnswerOf file first second room
+  pub chain-refused : (refusal : Refusal) → validateAnswerOf file ≡ Validation.Refused refusal →
+      ChainAnswer.Refused refusal ≡ chainAnswerOf file first second room
   unfolding chainAnswerOf chainQuestions
   chain-refused refusal e = sym (plan-first file _ ChainAnswer.Refused _ ∙ rw e)
 
@@ -41,7 +42,8 @@ module _ (file : List ℕ) (first second room : ℕ) where
     pub chain-past : (refusal : Refusal) → answer ≡ asked.Refused refusal → ChainAnswer.Refused refusal ≡ chainAnswerOf file first second room
     unfolding chainAnswerOf chainQuestions
     chain-past refusal f =
-        asked-refused (positionQuestions first second windows) (roomQuestion (length (chainBetween file first second)) room ∷ []) ChainAnswer.Refused (chainFound (chainBetween file first second)) answer e refusal f
+        asked-refused (positionQuestions first second windows) (roomQuestion (length (chainBetween file first second)) room ∷ []) ChainAnswer.Refused
+        (chainFound (chainBetween file first second)) answer e refusal f
         ∙ sym (plan-first file _ ChainAnswer.Refused _ ∙ rw (accepted-validated file (p .accepted), ← p .counted))
 
     -- Of two positions of windows, what is left is the chain and its room.
@@ -52,8 +54,11 @@ module _ (file : List ℕ) (first second room : ℕ) where
         ∙ sym (plan-first file _ ChainAnswer.Refused _ ∙ rw (accepted-validated file (p .accepted), ← p .counted))
 
     module _ (f : answer ≡ asked.Passed) (found : ChainAnswer) (before after : List ℕ) where
-      pub chain-asked : found ≡ chainRest (chainBetween file first second) room → after ≡ afterChain found (chainBetween file first second) before → (found ≡ chainAnswerOf file first second room) × (after ≡ afterChain found (chainBetween file first second) before)
+      pub chain-asked : found ≡ chainRest (chainBetween file first second) room → after ≡ afterChain found (chainBetween file first second) before →
+          (found ≡ chainAnswerOf file first second room) × (after ≡ afterChain found (chainBetween file first second) before)
       chain-asked g w = (g ∙ chain-answers f, w)
 
-      pub chain-asked-turned : found ≡ chainRest (chainBetween file second first) room → after ≡ afterChain found (chainBetween file second first) before → (found ≡ chainAnswerOf file first second room) × (after ≡ afterChain found (chainBetween file first second) before)
+      pub chain-asked-turned : found ≡ chainRest (chainBetween file second first) room →
+          after ≡ afterChain found (chainBetween file second first) before →
+          (found ≡ chainAnswerOf file first second room) × (after ≡ afterChain found (chainBetween file first second) before)
       chain-asked-turned g w = chain-asked (rw between-symmetric at g) (rw between-symmetric at w)

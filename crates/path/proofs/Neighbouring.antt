@@ -58,10 +58,18 @@ module _ (p : ℕ → Bool) (n : ℕ) where
     -- There is room for one that passes, where there is for all.
     pub listed-room : (before now : List ℕ) → p v ≡ true → length (passing p 0 n) ≤ length before → Listed p n before now found v → found < length now
     listed-room before now t room s =
-        omega
-        (arith, s .so-far .counted, s .list .long, passing-monotone p (v + 1) n (omega arith), ap (length {A = ℕ}) (passing-more p v t), length-append (passing p 0 v) (v ∷ []))
+        omega (
+          arith,
+          s .so-far .counted,
+          s .list .long,
+          passing-monotone p (v + 1) n (omega arith),
+          ap (length {A = ℕ})
+              (passing-more p v t),
+          length-append (passing p 0 v) (v ∷ []),
+        )
 
-    pub listed-more : (before now : List ℕ) → p v ≡ true → length (passing p 0 n) ≤ length before → Listed p n before now found v → Listed p n before (set now found v) (found + 1) (v + 1)
+    pub listed-more : (before now : List ℕ) → p v ≡ true → length (passing p 0 n) ≤ length before → Listed p n before now found v →
+        Listed p n before (set now found v) (found + 1) (v + 1)
     listed-more before now t room s =
         record {
           so-far = counted-more t (s .so-far);

@@ -30,7 +30,8 @@ unfolding answers
 plan-12-chain-level = refl
 
 -- In a table of four entries, in one of three, of two components, and of a position that the plan does not have.
-pub plan-12-answers : (chainAnswerOf file 0 5 4 ≡ Chain 4) × (chainAnswerOf file 0 5 3 ≡ Refused (refusalBy 8)) × (chainAnswerOf file 5 6 0 ≡ NoChain) × (chainAnswerOf file 6 7 9 ≡ Refused (refusalFrom 1 (refusalBy 7)))
+pub plan-12-answers : (chainAnswerOf file 0 5 4 ≡ Chain 4) × (chainAnswerOf file 0 5 3 ≡ Refused (refusalBy 8))
+    × (chainAnswerOf file 5 6 0 ≡ NoChain) × (chainAnswerOf file 6 7 9 ≡ Refused (refusalFrom 1 (refusalBy 7)))
 unfolding answers
 plan-12-answers = (refl, refl, refl, refl)
 

@@ -77,21 +77,24 @@ module _ (file : List ℕ) (v steps : ℕ) (before : List ℕ) where
     pub stepping-low : at ≤ v
     stepping-low = omega (arith, s .stands, ancestor-le (tree (overlaps file)) step v)
 
-    pub stepping-turn : (up : ℕ) → step < steps → steps < length before → up ≡ parent (overlaps file) at → Stepping file v steps before (set now step at) up (step + 1)
+    pub stepping-turn : (up : ℕ) → step < steps → steps < length before → up ≡ parent (overlaps file) at →
+        Stepping file v steps before (set now step at) up (step + 1)
     unfolding table
     stepping-turn up h room e =
         record {
           within = omega arith;
           stands = rw (add-one step, ancestor-suc (tree (overlaps file)) step v, ← s .stands) e;
           list = rw (add-one step, ← s .stands)
-              (written-more before now (table (λ i. ancestor (overlaps file) i v) step) step at (sym (length-table (λ i. ancestor (overlaps file) i v) step)) (omega arith) (s .list));
+              (written-more before now (table (λ i. ancestor (overlaps file) i v) step) step at
+              (sym (length-table (λ i. ancestor (overlaps file) i v) step)) (omega arith) (s .list));
         }
 
     pub stepping-end : (u : ℕ) → steps ≤ step → steps < length before → set now step u ≡ overwritten before (walked file u v steps)
     stepping-end u done room =
         let e : step ≡ steps = omega (arith, s .within) in
         rw e
-        (written-more before now (table (λ i. ancestor (overlaps file) i v) steps) steps u (sym (length-table (λ i. ancestor (overlaps file) i v) steps)) room (rw e at (s .list)) .written)
+        (written-more before now (table (λ i. ancestor (overlaps file) i v) steps) steps u
+        (sym (length-table (λ i. ancestor (overlaps file) i v) steps)) room (rw e at (s .list)) .written)
 
 -- The answer that is left, by the chain, and the table afterwards.
 module _ (chain before : List ℕ) where
@@ -99,7 +102,8 @@ module _ (chain before : List ℕ) where
   unfolding firstNo roomQuestion question chainFound afterChain
   rest-none e = (rw (e, le-leb 0 (length before) (omega arith)), refl)
 
-  pub rest-short : length before < length chain → (Refused (refusalBy 8) ≡ chainRest chain (length before)) × (before ≡ afterChain (Refused (refusalBy 8)) chain before)
+  pub rest-short : length before < length chain → (Refused (refusalBy 8) ≡ chainRest chain (length before))
+      × (before ≡ afterChain (Refused (refusalBy 8)) chain before)
   unfolding firstNo roomQuestion question afterChain
   rest-short h = (rw (lt-leb (length chain) (length before) h), refl)
 
@@ -108,7 +112,8 @@ unfolding chainFound
 found-some [] h = absurd (omega arith)
 found-some (x ∷ l) h = refl
 
-pub rest-written : (chain before after : List ℕ) (entries : ℕ) → entries ≡ length chain → 0 < entries → length chain ≤ length before → after ≡ overwritten before chain → (Chain entries ≡ chainRest chain (length before)) × (after ≡ afterChain (Chain entries) chain before)
+pub rest-written : (chain before after : List ℕ) (entries : ℕ) → entries ≡ length chain → 0 < entries → length chain ≤ length before →
+    after ≡ overwritten before chain → (Chain entries ≡ chainRest chain (length before)) × (after ≡ afterChain (Chain entries) chain before)
 unfolding firstNo roomQuestion question afterChain
 rest-written chain before after entries e some fits w =
     (rw (le-leb (length chain) (length before) fits, e) (found-some chain (omega arith)), w)

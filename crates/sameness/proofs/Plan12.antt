@@ -24,6 +24,7 @@ plan-12-same = refl
 abbrev window : ℕ → ℕ → Window
 window offset length = record { offset = offset; length = length }
 
-pub same-by-overlap : (sameAnswerOf (fileOf 1 (window 0 11 ∷ window 10 5 ∷ [])) (fileOf 2 (window 5 5 ∷ window 5 5 ∷ [])) ≡ Same) × (sameAnswerOf (fileOf 1 (window 0 5 ∷ window 5 5 ∷ [])) (fileOf 1 (window 0 5 ∷ window 4 5 ∷ [])) ≡ Different)
+pub same-by-overlap : (sameAnswerOf (fileOf 1 (window 0 11 ∷ window 10 5 ∷ [])) (fileOf 2 (window 5 5 ∷ window 5 5 ∷ [])) ≡ Same)
+    × (sameAnswerOf (fileOf 1 (window 0 5 ∷ window 5 5 ∷ [])) (fileOf 1 (window 0 5 ∷ window 4 5 ∷ [])) ≡ Different)
 unfolding answers
 same-by-overlap = (refl, refl)

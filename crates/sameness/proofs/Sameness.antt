@@ -47,8 +47,10 @@ equal-beq false t e = rw (← e)
 pub pairs-iff-overlaps : (n : ℕ) (first second : ℕ → ℕ → Bool) → (samePairs n first second ≡ true) ↔ SameOverlaps n first second
 unfolding samePairs
 pairs-iff-overlaps n first second = (
-  λ t u v h g. beq-equal (first u v) (second u v) (every-at (λ w. Bool·beq (first u w) (second u w)) n v (every-at (λ w. every (λ z. Bool·beq (first w z) (second w z)) n) n u t h) g),
-  λ same. every-intro (λ w. every (λ z. Bool·beq (first w z) (second w z)) n) n (λ u h. every-intro (λ z. Bool·beq (first u z) (second u z)) n (λ v g. equal-beq (first u v) (second u v) (same u v h g))),
+  λ t u v h g. beq-equal (first u v) (second u v) (every-at (λ w. Bool·beq (first u w) (second u w)) n v
+      (every-at (λ w. every (λ z. Bool·beq (first w z) (second w z)) n) n u t h) g),
+  λ same. every-intro (λ w. every (λ z. Bool·beq (first w z) (second w z)) n) n
+      (λ u h. every-intro (λ z. Bool·beq (first u z) (second u z)) n (λ v g. equal-beq (first u v) (second u v) (same u v h g))),
 )
 
 module _ {n : ℕ} {first second : ℕ → ℕ → Bool} (ok : IntervalOrder n first) (ok′ : IntervalOrder n second) where
@@ -62,12 +64,17 @@ module _ {n : ℕ} {first second : ℕ → ℕ → Bool} (ok : IntervalOrder n f
 
 -- Two accepted plans are the same exactly if they have equal n and each window's component, depth, rank and rank of the last
 -- are the same.
-pub same-iff-numbers : (first second : List ℕ) → AcceptedPlan first → AcceptedPlan second → (sameOverlap first second ≡ true) ↔ ((windowCount first ≡ windowCount second) × SameNumbers (windowCount first) (overlaps first) (overlaps second))
+pub same-iff-numbers : (first second : List ℕ) → AcceptedPlan first → AcceptedPlan second →
+    (sameOverlap first second ≡ true) ↔ ((windowCount first ≡ windowCount second)
+    × SameNumbers (windowCount first) (overlaps first) (overlaps second))
 unfolding sameOverlap
 same-iff-numbers first second ok ok′ = (
   λ t.
-      let e : n ≡ windowCount second = eqb-true n (windowCount second) (and-left _ _ t) in
-      (e, overlaps-numbers (interval-order first ok) (other e) (pairs-iff-overlaps n (overlaps first) (overlaps second) .0 (and-right (eqb n (windowCount second)) _ t))),
+      let e : n ≡ windowCount second = eqb-true n (windowCount second) (and-left _ _ t) in (
+        e,
+        overlaps-numbers (interval-order first ok) (other e)
+            (pairs-iff-overlaps n (overlaps first) (overlaps second) .0 (and-right (eqb n (windowCount second)) _ t)),
+      ),
   λ s.
       and-intro (eqb n (windowCount second)) _ (eq-eqb n (windowCount second) (s .0))
       (pairs-iff-overlaps n (overlaps first) (overlaps second) .1 (numbers-overlaps (interval-order first ok) (other (s .0)) (s .1))),
@@ -87,7 +94,8 @@ module _ (first second : List ℕ) where
 
   module _ (ok : AcceptedPlan first) where
     -- The second file's refusal has input 1.
-    pub same-refused-second : (refusal : Refusal) → validateAnswerOf second ≡ Validation.Refused refusal → SameAnswer.Refused (refusalFrom 1 refusal) ≡ sameAnswerOf first second
+    pub same-refused-second : (refusal : Refusal) → validateAnswerOf second ≡ Validation.Refused refusal →
+        SameAnswer.Refused (refusalFrom 1 refusal) ≡ sameAnswerOf first second
     unfolding sameAnswerOf sameQuestions
     same-refused-second refusal e =
         sym (plan-first first _ SameAnswer.Refused _ ∙ rw (accepted-validated first ok) (plan-second second SameAnswer.Refused _ ∙ rw e))
@@ -95,7 +103,8 @@ module _ (first second : List ℕ) where
     -- Of two accepted plans the test decides.
     pub compared : AcceptedPlan second → sameAnswerOf first second ≡ cond (sameOverlap first second) SameAnswer.Same SameAnswer.Different
     unfolding sameAnswerOf sameQuestions
-    compared ok′ = plan-first first _ SameAnswer.Refused _ ∙ rw (accepted-validated first ok) (plan-second second SameAnswer.Refused _ ∙ rw (accepted-validated second ok′))
+    compared ok′ = plan-first first _ SameAnswer.Refused _
+        ∙ rw (accepted-validated first ok) (plan-second second SameAnswer.Refused _ ∙ rw (accepted-validated second ok′))
 
 -- Both plans are accepted, with their tables of lasts.
 module _ {first second : List ℕ} {n m : ℕ} {lasts others : List ℕ} (t : Tabled first n (lastOf first) lasts) (t′ : Tabled second m (lastOf second) others) where

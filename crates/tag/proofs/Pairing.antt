@@ -12,12 +12,14 @@ use lib.ListN.{length}
 use borrow.Author.Tests.{eq-eqb, ne-eqb, eqb-true, ltb-true}
 use Rattle.sequences.proofs.Tests.{eqb-symmetric, truth}
 use Rattle.interval_graph.specs.Numbers.{Numbers, Outcome, apart, no-chain, equal, comesFirst, between, outcome}
-use Rattle.interval_graph.proofs.Outcome.{equal-refl, equal-symmetric, outcome-equal, outcome-components, outcome-first, outcome-second, outcome-symmetric, outcome-most}
+use Rattle.interval_graph.proofs.Outcome.{equal-refl, equal-symmetric, outcome-equal, outcome-components}
+use Rattle.interval_graph.proofs.Outcome.{outcome-first, outcome-second, outcome-symmetric, outcome-most}
 use Rattle.refusals.specs.declared.Refusal.{Refusal}
 use Rattle.refusals.specs.declared.Asked.{Asked}
 use Rattle.refusals.specs.declared.Asked.the-variants as asked
 use Rattle.refusals.specs.Question.{refusalBy, refusalFrom, question, from, firstNo, askedOf, positionQuestion, positionQuestions}
-use Rattle.refusals.proofs.Question.{first-append, first-from, answer-accepted, afterAsked, asked-first, asked-refused, asked-passed, first-all, all-member, all-from, append-left, append-right, passed-within}
+use Rattle.refusals.proofs.Question.{first-append, first-from, answer-accepted, afterAsked, asked-first, asked-refused}
+use Rattle.refusals.proofs.Question.{asked-passed, first-all, all-member, all-from, append-left, append-right, passed-within}
 use lib.Dec.{eqb}
 use Rattle.tag_bytes.specs.declared.reader.Tag.{Tag}
 use Rattle.tag_bytes.specs.declared.reader.TagRead.the-variants as read
@@ -26,7 +28,8 @@ use Rattle.tag.specs.declared.pairs.PairAnswer.the-variants.{Handovers, 
 use Rattle.tag_bytes.specs.Fields.{tagLength, fieldLimit, tagOf, numbers, tagWith, tagBytes, withinLimit}
 use Rattle.tag_bytes.specs.Reading.{readQuestions, readAnswerOf}
 use Rattle.tag_bytes.specs.TagFile.{tagFile, tagCount, tagPart, tagFileQuestion, lookupPart}
-use Rattle.tag.specs.Pairing.{agreeing, compareQuestions, pairQuestions, answerOf, comparedOf, pairAnswerOf, placeQuestions, pairAtQuestions, pairAtAnswerOf}
+use Rattle.tag.specs.Pairing.{agreeing, compareQuestions, pairQuestions, answerOf}
+use Rattle.tag.specs.Pairing.{comparedOf, pairAnswerOf, placeQuestions, pairAtQuestions, pairAtAnswerOf}
 use Rattle.tag_bytes.proofs.Fields.{Within, within-limit, numbers-tagWith}
 use Rattle.tag_bytes.proofs.Reading.{valid-reads, questions-valid, questions-refused}
 use Rattle.tag_bytes.proofs.Writing.{tagBytes-read}
@@ -39,11 +42,13 @@ module _ (first second : List ℕ) where
   unfolding readQuestions question from
   first-input = refl
 
-  first-asked : (accepted : PairAnswer) → firstNo (readQuestions first) Refused accepted ≡ firstNo (readQuestions first) (λ r. Refused (refusalFrom 0 r)) accepted
+  first-asked : (accepted : PairAnswer) → firstNo (readQuestions first) Refused accepted
+      ≡ firstNo (readQuestions first) (λ r. Refused (refusalFrom 0 r)) accepted
   first-asked accepted = ap (λ qs. firstNo qs Refused accepted) (sym first-input) ∙ first-from 0 (readQuestions first) Refused accepted
 
   -- The questions to the first tag, to the second, and to both.
-  questions-in-turn : pairAnswerOf first second ≡ firstNo (readQuestions first) (λ r. Refused (refusalFrom 0 r)) (firstNo (readQuestions second) (λ r. Refused (refusalFrom 1 r)) (comparedOf (numbers (tagOf first)) (numbers (tagOf second))))
+  questions-in-turn : pairAnswerOf first second ≡ firstNo (readQuestions first) (λ r. Refused (refusalFrom 0 r))
+      (firstNo (readQuestions second) (λ r. Refused (refusalFrom 1 r)) (comparedOf (numbers (tagOf first)) (numbers (tagOf second))))
   unfolding pairAnswerOf pairQuestions comparedOf
   questions-in-turn =
       rw (first-append, first-from, first-append, first-from) (first-asked _)
@@ -53,11 +58,13 @@ module _ (first second : List ℕ) where
   pair-first-refused r e = questions-in-turn ∙ questions-refused first _ _ r e
 
   -- A second tag that is refused after a first that is not.
-  pub pair-second-refused : (a : Tag) (r : Refusal) → readAnswerOf first ≡ read.Valid a → readAnswerOf second ≡ read.Refused r → pairAnswerOf first second ≡ Refused (refusalFrom 1 r)
+  pub pair-second-refused : (a : Tag) (r : Refusal) → readAnswerOf first ≡ read.Valid a → readAnswerOf second ≡ read.Refused r →
+      pairAnswerOf first second ≡ Refused (refusalFrom 1 r)
   pair-second-refused a r e g = questions-in-turn ∙ (questions-valid first _ _ a e ∙ questions-refused second _ _ r g)
 
   -- Two tags that are both read answer by their numbers.
-  pub pair-valid : (a b : Tag) → readAnswerOf first ≡ read.Valid a → readAnswerOf second ≡ read.Valid b → pairAnswerOf first second ≡ comparedOf (numbers a) (numbers b)
+  pub pair-valid : (a b : Tag) → readAnswerOf first ≡ read.Valid a → readAnswerOf second ≡ read.Valid b →
+      pairAnswerOf first second ≡ comparedOf (numbers a) (numbers b)
   pair-valid a b e g =
       questions-in-turn ∙ (questions-valid first _ _ a e ∙ (questions-valid second _ _ b g
       ∙ rw (valid-reads first a e .holds, valid-reads second b g .holds)))
@@ -133,7 +140,8 @@ unfolding comparedOf compareQuestions
 compared-symmetric u v = rw (eqb-symmetric (u .plan) (v .plan), agreeing-symmetric u v, outcome-symmetric u v)
 
 -- Two byte strings that both read answer the same in either order, a refusal by 11 or 12 included.
-pub pair-symmetric : (first second : List ℕ) (a b : Tag) → readAnswerOf first ≡ read.Valid a → readAnswerOf second ≡ read.Valid b → pairAnswerOf first second ≡ pairAnswerOf second first
+pub pair-symmetric : (first second : List ℕ) (a b : Tag) → readAnswerOf first ≡ read.Valid a → readAnswerOf second ≡ read.Valid b →
+    pairAnswerOf first second ≡ pairAnswerOf second first
 pair-symmetric first second a b e g =
     pair-valid first second a b e g ∙ (compared-symmetric (numbers a) (numbers b) ∙ sym (pair-valid second first b a g e))
 
@@ -144,7 +152,8 @@ pair-tagBytes u v hu hv =
     ∙ rw (numbers-tagWith u, numbers-tagWith v)
 
 -- So is the answer from two tags that are looked up in a tag file.
-pub pair-tagFile : (f : ℕ → Numbers) (n u v : ℕ) → u < n → v < n → withinLimit (f u) ≡ true → withinLimit (f v) ≡ true → pairAnswerOf (lookupPart (tagFile f n) u) (lookupPart (tagFile f n) v) ≡ comparedOf (f u) (f v)
+pub pair-tagFile : (f : ℕ → Numbers) (n u v : ℕ) → u < n → v < n → withinLimit (f u) ≡ true → withinLimit (f v) ≡ true →
+    pairAnswerOf (lookupPart (tagFile f n) u) (lookupPart (tagFile f n) v) ≡ comparedOf (f u) (f v)
 pair-tagFile f n u v hu hv wu wv = rw (tagFile-lookup f n u hu, tagFile-lookup f n v hv) (pair-tagBytes (f u) (f v) wu wv)
 
 -- A tag that is read is 0 handovers from itself.
@@ -178,8 +187,10 @@ pair-counted first second k e =
     let later = readQuestions second ++ compareQuestions u v in
     let rest = sym (all-from 1 later) ∙ append-right (readQuestions first) (from 1 later) passed in
     record {
-      first = within-limit u (all-member (readQuestions first) (append-left (readQuestions first) (from 1 later) passed) _ (List·Memᴰ·tail (List·Memᴰ·head refl)));
-      second = within-limit v (all-member (readQuestions second) (append-left (readQuestions second) (compareQuestions u v) rest) _ (List·Memᴰ·tail (List·Memᴰ·head refl)));
+      first = within-limit u (all-member (readQuestions first) (append-left (readQuestions first) (from 1 later) passed) _
+          (List·Memᴰ·tail (List·Memᴰ·head refl)));
+      second = within-limit v (all-member (readQuestions second) (append-left (readQuestions second) (compareQuestions u v) rest) _
+          (List·Memᴰ·tail (List·Memᴰ·head refl)));
       count = answer-counts (outcome u v) k accepted;
     }
 
@@ -199,10 +210,12 @@ module _ (tags : List ℕ) (first second : ℕ) where
   unfolding askedOf placeQuestions tagFileQuestion firstNo question
   places-whole whole = rw (eq-eqb (length tags % tagLength) 0 whole)
 
-  places-found : asked.Passed ≡ askedOf (placeQuestions tags first second) → (lookupPart tags first ≡ tagPart tags first) × (lookupPart tags second ≡ tagPart tags second)
+  places-found : asked.Passed ≡ askedOf (placeQuestions tags first second) →
+      (lookupPart tags first ≡ tagPart tags first) × (lookupPart tags second ≡ tagPart tags second)
   unfolding askedOf placeQuestions positionQuestions positionQuestion tagFileQuestion question from
   places-found e =
-      let all = all-member (placeQuestions tags first second) (first-all (placeQuestions tags first second) asked.Refused asked.Passed (λ r s. let z : _≡_ {A = ℕ} 0 1 = cc in omega arith) (sym e)) in
+      let all = all-member (placeQuestions tags first second)
+      (first-all (placeQuestions tags first second) asked.Refused asked.Passed (λ r s. let z : _≡_ {A = ℕ} 0 1 = cc in omega arith) (sym e)) in
       let whole = eqb-true _ _ (all _ (List·Memᴰ·head refl)) in (
         part-found tags first (sym (lookup-found tags first whole (ltb-true _ _ (all _ (List·Memᴰ·tail (List·Memᴰ·head refl)))))),
         part-found tags second (sym (lookup-found tags second whole (ltb-true _ _ (all _ (List·Memᴰ·tail (List·Memᴰ·tail (List·Memᴰ·head refl))))))),
@@ -219,7 +232,8 @@ module _ (tags : List ℕ) (first second : ℕ) where
         let found = places-found (sym p ∙ e) in
         rw (found .0, found .1) (asked-passed (placeQuestions tags first second) _ Refused _ answer e p)
 
-  pub pair-at-asked : length tags % tagLength ≡ 0 → pairAtAnswerOf tags first second ≡ afterAsked (askedOf (positionQuestions first second (tagCount tags))) Refused (pairAnswerOf (tagPart tags first) (tagPart tags second))
+  pub pair-at-asked : length tags % tagLength ≡ 0 → pairAtAnswerOf tags first second
+      ≡ afterAsked (askedOf (positionQuestions first second (tagCount tags))) Refused (pairAnswerOf (tagPart tags first) (tagPart tags second))
   unfolding pairAtAnswerOf pairAtQuestions placeQuestions pairAnswerOf tagFileQuestion firstNo question
   pair-at-asked whole =
       rw (eq-eqb (length tags % tagLength) 0 whole)
@@ -227,7 +241,9 @@ module _ (tags : List ℕ) (first second : ℕ) where
       ∙ asked-first (positionQuestions first second (tagCount tags)) Refused _)
 
 -- In a tag file of n tags that is the pair call on the two parts that a lookup hands back.
-pub pair-at-tagFile : (f : ℕ → Numbers) (n first second : ℕ) → pairAtAnswerOf (tagFile f n) first second ≡ firstNo (positionQuestions first second n) Refused (pairAnswerOf (lookupPart (tagFile f n) first) (lookupPart (tagFile f n) second))
+pub pair-at-tagFile : (f : ℕ → Numbers) (n first second : ℕ) →
+    pairAtAnswerOf (tagFile f n) first second ≡ firstNo (positionQuestions first second n) Refused
+    (pairAnswerOf (lookupPart (tagFile f n) first) (lookupPart (tagFile f n) second))
 unfolding tagCount
 pair-at-tagFile f n first second =
     let long = length-tagFile f n in
@@ -235,7 +251,9 @@ pair-at-tagFile f n first second =
     pair-at-asked (tagFile f n) first second (omega arith) ∙ (rw counted (passed-parts (askedOf (positionQuestions first second n)) refl)
     ∙ sym (asked-first (positionQuestions first second n) Refused _))
   where
-    passed-parts : (a : Asked) → a ≡ askedOf (positionQuestions first second n) → afterAsked a Refused (pairAnswerOf (tagPart (tagFile f n) first) (tagPart (tagFile f n) second)) ≡ afterAsked a Refused (pairAnswerOf (lookupPart (tagFile f n) first) (lookupPart (tagFile f n) second))
+    passed-parts : (a : Asked) → a ≡ askedOf (positionQuestions first second n) →
+        afterAsked a Refused (pairAnswerOf (tagPart (tagFile f n) first) (tagPart (tagFile f n) second))
+        ≡ afterAsked a Refused (pairAnswerOf (lookupPart (tagFile f n) first) (lookupPart (tagFile f n) second))
     passed-parts asked.Passed e =
         let within = passed-within first second n e in
         rw (lookup-position (tagFile f n) n first (length-tagFile f n) (within .0), lookup-position (tagFile f n) n second (length-tagFile f n) (within .1))

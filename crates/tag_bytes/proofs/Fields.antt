@@ -63,7 +63,8 @@ pub limit-within : (n : Numbers) → Within n → withinLimit n ≡ true
 limit-within n w = sym (last-decides n (w .component) (w .depth) (w .rank)) ∙ le-leb _ _ (w .last)
 
 -- Five numbers that are those of the fields are the tag.
-pub tagOf-fields : (bytes : List ℕ) (plan component depth rank last : ℕ) → plan ≡ field bytes 0 → component ≡ field bytes 1 → depth ≡ field bytes 2 → rank ≡ field bytes 3 → last ≡ field bytes 4 → record { plan = plan; component = component; depth = depth; rank = rank; last = last } ≡ tagOf bytes
+pub tagOf-fields : (bytes : List ℕ) (plan component depth rank last : ℕ) → plan ≡ field bytes 0 → component ≡ field bytes 1 → depth ≡ field bytes 2 →
+    rank ≡ field bytes 3 → last ≡ field bytes 4 → record { plan = plan; component = component; depth = depth; rank = rank; last = last } ≡ tagOf bytes
 unfolding tagOf
 tagOf-fields bytes plan component depth rank last p c d r l = rw (p, c, d, r, l)
 

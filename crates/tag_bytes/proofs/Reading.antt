@@ -49,7 +49,8 @@ unfolding readAnswerOf readQuestions question
 valid-reads bytes t e =
     let same : Valid (tagOf bytes) ≡ Valid t = answer-accepted (readQuestions bytes) Refused (Valid (tagOf bytes)) (Valid t) (refused-not-valid t) e in
     let holds : t ≡ tagOf bytes = cc in
-    let passed = all-member (readQuestions bytes) (first-all (readQuestions bytes) Refused (Valid (tagOf bytes)) (refused-not-valid (tagOf bytes)) (e ∙ sym same)) in
+    let passed = all-member (readQuestions bytes) (first-all (readQuestions bytes) Refused (Valid (tagOf bytes)) (refused-not-valid (tagOf bytes))
+    (e ∙ sym same)) in
     record {
       long = eqb-true _ _ (passed _ (List·Memᴰ·head refl));
       within = rw holds (passed _ (List·Memᴰ·tail (List·Memᴰ·head refl)));

@@ -40,7 +40,8 @@ module _ (tags : List ℕ) (at : ℕ) where
   pub found-within : lookupAnswerOf tags at ≡ Found → tagLength * at + tagLength ≤ length tags
   unfolding lookupAnswerOf lookupQuestions positionQuestion question tagCount
   found-within e =
-      let passed = all-member (lookupQuestions tags at) (first-all (lookupQuestions tags at) Refused Found (λ r s. let z : _≡_ {A = ℕ} 0 1 = cc in omega arith) e) in
+      let passed = all-member (lookupQuestions tags at) (first-all (lookupQuestions tags at) Refused Found
+      (λ r s. let z : _≡_ {A = ℕ} 0 1 = cc in omega arith) e) in
       let within : at < length tags / tagLength = ltb-true _ _ (passed _ (List·Memᴰ·tail (List·Memᴰ·head refl))) in
       omega arith
 
@@ -82,6 +83,7 @@ module _ (f : ℕ → Numbers) where
   tagFile-cong g n e = ap (flatMap tagBytes) (table-cong f g n e)
 
   -- One tag more: the turn of a pass that fills a table with tags, where each goes to the front of what is left.
-  pub tagFile-turn : (v : ℕ) (l : List ℕ) → take (tagLength * v) (overwritten l (tagFile f v)) ++ overwritten (drop (tagLength * v) (overwritten l (tagFile f v))) (tagBytes (f v)) ≡ overwritten l (tagFile f (suc v))
+  pub tagFile-turn : (v : ℕ) (l : List ℕ) → take (tagLength * v) (overwritten l (tagFile f v)) ++ overwritten
+      (drop (tagLength * v) (overwritten l (tagFile f v))) (tagBytes (f v)) ≡ overwritten l (tagFile f (suc v))
   unfolding tagFile
   tagFile-turn v l = records-turn tagBytes tagLength length-tagBytes f v l

@@ -43,7 +43,8 @@ module _ (n : Numbers) (out : List ℕ) where
   write-written room within = rw (le-leb tagLength (length out) room, within)
 
   -- Five numbers of two bytes, written one behind the other, are the tag at the front.
-  pub put-front : (a b c d e : List ℕ) → tagLength ≤ length out → a ≡ placed out 0 (bytes16 (n .plan)) → b ≡ placed a 2 (bytes16 (n .component)) → c ≡ placed b 4 (bytes16 (n .depth)) → d ≡ placed c 6 (bytes16 (n .rank)) → e ≡ placed d 8 (bytes16 (n .last)) → e ≡ overwritten out (tagBytes n)
+  pub put-front : (a b c d e : List ℕ) → tagLength ≤ length out → a ≡ placed out 0 (bytes16 (n .plan)) → b ≡ placed a 2 (bytes16 (n .component)) →
+      c ≡ placed b 4 (bytes16 (n .depth)) → d ≡ placed c 6 (bytes16 (n .rank)) → e ≡ placed d 8 (bytes16 (n .last)) → e ≡ overwritten out (tagBytes n)
   unfolding overwritten tagBytes bytes16
   put-front a b c d e room plan component depth rank last =
       let first = bytes16 (n .plan) in
@@ -97,7 +98,8 @@ tag-front : (n : Numbers) (out : List ℕ) → take tagLength (overwritten out (
 tag-front n out = rw (length-tagBytes n) at (take-overwritten out (tagBytes n))
 
 -- A tag that is written reads back as the same five numbers.
-pub written-reads-back : (n : Numbers) (out : List ℕ) → writeAnswerOf n out ≡ Written → readAnswerOf (take tagLength (afterWrite (writeAnswerOf n out) n out)) ≡ Valid (tagWith n)
+pub written-reads-back : (n : Numbers) (out : List ℕ) → writeAnswerOf n out ≡ Written →
+    readAnswerOf (take tagLength (afterWrite (writeAnswerOf n out) n out)) ≡ Valid (tagWith n)
 unfolding afterWrite
 written-reads-back n out e = rw (e, tag-front n out) (tagBytes-read n (written-fits n out e .within))
 
@@ -112,7 +114,8 @@ pub read-accepted : (bytes : List ℕ) (t : Tag) (out : List ℕ) → readAnswer
 read-accepted bytes t out e room = sym (write-written (numbers t) out room (valid-reads bytes t e .within))
 
 -- Bytes that read as a tag are written back the same.
-pub read-writes-back : (bytes : List ℕ) (t : Tag) (out : List ℕ) → ((i : ℕ) → getD bytes i 0 < 256) → readAnswerOf bytes ≡ Valid t → tagLength ≤ length out → take tagLength (afterWrite (writeAnswerOf (numbers t) out) (numbers t) out) ≡ bytes
+pub read-writes-back : (bytes : List ℕ) (t : Tag) (out : List ℕ) → ((i : ℕ) → getD bytes i 0 < 256) → readAnswerOf bytes ≡ Valid t →
+    tagLength ≤ length out → take tagLength (afterWrite (writeAnswerOf (numbers t) out) (numbers t) out) ≡ bytes
 unfolding afterWrite
 read-writes-back bytes t out small e room =
     rw (read-accepted bytes t out e room) (tag-front (numbers t) out ∙ read-tagBytes bytes t small e)

@@ -42,7 +42,8 @@ module _ (l : List ℕ) (at x : ℕ) where
   unfolding bytes16
   placed-two h = rw (add-one at) (placed-fits l at (bytes16 x) h)
 
-  pub placed-four : at + 4 ≤ length l → placed l at (bytes32 x) ≡ set (set (set (set l at (x % 256)) (at + 1) (x / 256 % 256)) (at + 2) (x / 65536 % 256)) (at + 3) (x / 16777216)
+  pub placed-four : at + 4 ≤ length l → placed l at (bytes32 x)
+      ≡ set (set (set (set l at (x % 256)) (at + 1) (x / 256 % 256)) (at + 2) (x / 65536 % 256)) (at + 3) (x / 16777216)
   unfolding bytes32
   placed-four h =
       let second : at + 1 ≡ suc at = omega arith in
@@ -86,7 +87,8 @@ placed-same l at k h =
     rw (long, le-leb (at + k) (length l) h, ← take-add at k l) (take-append-drop (at + k) l)
 
 -- Bytes that are written right behind what was written before: the turn of a pass that fills a table with numbers.
-pub placed-overwritten : (l new more : List ℕ) → length new + length more ≤ length l → placed (overwritten l new) (length new) more ≡ overwritten l (new ++ more)
+pub placed-overwritten : (l new more : List ℕ) → length new + length more ≤ length l →
+    placed (overwritten l new) (length new) more ≡ overwritten l (new ++ more)
 unfolding placed overwritten
 placed-overwritten l new more h =
     let whole : length (new ++ drop (length new) l) ≡ length l = omega (arith, length-append new (drop (length new) l), length-drop (length new) l) in

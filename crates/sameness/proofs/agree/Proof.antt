@@ -43,7 +43,11 @@ loop-less : tie.Need-loop-less Inv-loop μ-loop
 loop-less c = search needs
 
 loop-again : tie.Need-loop-again Inv-loop μ-loop
-loop-again c = (omega arith, λ k h. ⊎-elim (λ g. c .before .before .before .before .loop .inv .1 k g) (λ g. let e : k ≡ c .before .before .before .before .loop .position = omega arith in rw e (c .if1 .left)) (lt-or-ge k (c .before .before .before .before .loop .position)))
+loop-again c = let d = c .before .before .before .before in (
+  omega arith,
+  λ k h. ⊎-elim (λ g. d .loop .inv .1 k g) (λ g. let e : k ≡ d .loop .position = omega arith in rw e (c .if1 .left))
+      (lt-or-ge k (d .loop .position)),
+)
 
 returns-2 : tie.Need-returns-2 Inv-loop μ-loop
 returns-2 c = sym (every-intro _ _ (λ k h. eq-eqb _ _ (c .before .loop .inv .1 k (omega arith))))

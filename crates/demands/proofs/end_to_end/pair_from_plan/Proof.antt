@@ -42,7 +42,8 @@ array-share-prefix-tags c = let d = c .before in
 slice-aggregate-pair-at : tie.Need-slice-aggregate-pair-at
 slice-aggregate-pair-at c = let d = c .before .before in
     let p = running-windows _ _ (omega arith) 0 0 _ (d .before .before .before .tag-file .ensures .0) _ _ _ (d .windows .given .1) in
-    sym (length-take-le (tagLength * d .windows .given .0 .1 .0) (d .before .before .before .tag-file .last .1 .0) (omega (arith, windows-few p, d .before .before .before .tag-file .kept .1 .0)))
+    sym (length-take-le (tagLength * d .windows .given .0 .1 .0) (d .before .before .before .tag-file .last .1 .0)
+    (omega (arith, windows-few p, d .before .before .before .tag-file .kept .1 .0)))
 
 pair-at-requires : tie.Need-pair-at-requires
 pair-at-requires c κs = search needs

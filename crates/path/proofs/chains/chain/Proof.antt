@@ -29,7 +29,8 @@ enum-known-refusal c = search needs
 
 returns : tie.Need-returns
 unfolding afterChain
-returns c = (chain-refused _ _ _ _ _ (table-refuses _ greatestCount (omega arith) _ _ (c .before .before .before .before .parent-table .ensures .0) (c .before .refusal .given .1)), refl)
+returns c = let d = c .before .before .before .before in
+    (chain-refused _ _ _ _ _ (table-refuses _ greatestCount (omega arith) _ _ (d .parent-table .ensures .0) (c .before .refusal .given .1)), refl)
 
 ask-positions-requires : tie.Need-ask-positions-requires
 ask-positions-requires c κs = search needs

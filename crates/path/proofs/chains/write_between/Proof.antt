@@ -21,8 +21,14 @@ by-requires : tie.Need-by-requires
 by-requires c κs = search needs
 
 returns-2 : tie.Need-returns-2
-returns-2 c = let d = c .before .before .before .before .before .before .before in
-    rw (c .by .ensures) (rest-short _ _ (omega (arith, c .before .if2 .taken, between-length _ _ _ _ (d .pre .1 .0) (c .before .before .before .steps-before .ensures) (c .before .before .if1 .left))))
+returns-2 c = let e = c .before .before .before in let f = e .before .before .before .before in
+    let d = f in
+    rw (c .by .ensures) (rest-short _ _ (omega (
+      arith,
+      c .before .if2 .taken,
+      between-length _ _ _ _ (d .pre .1 .0) (e .steps-before .ensures)
+          (c .before .before .if1 .left),
+    )))
 
 write-walk-requires : tie.Need-write-walk-requires
 write-walk-requires c κs = let d = c .before .before .before .before .before .before .before in
@@ -39,12 +45,13 @@ same-length : tie.Need-same-length
 same-length c = search needs
 
 returns-3 : tie.Need-returns-3
-returns-3 c = let d = c .before .before .before .before .before .before .before .before .before .before in
-    let e = c .before .before .before .before .before .before .steps-before .ensures in
-    let near = c .before .before .before .before .before .if1 .left in
+returns-3 c = let f = c .before .before .before .before in let g = f .before .before .before .before .before .before in
+    let d = g in
+    let e = f .before .before .steps-before .ensures in
+    let near = f .before .if1 .left in
     let walked = between-walked _ _ _ _ (d .pre .1 .0) e near in
     let long = between-length _ _ _ _ (d .pre .1 .0) e near in
-    rest-written _ _ _ _ long (omega arith) (omega (arith, long, c .before .before .before .before .if2 .left)) (rw walked (c .before .before .write-walk .ensures))
+    rest-written _ _ _ _ long (omega arith) (omega (arith, long, f .if2 .left)) (rw walked (c .before .before .write-walk .ensures))
 
 pub write-between-spec : {M : Type 1} → statement M
 write-between-spec =

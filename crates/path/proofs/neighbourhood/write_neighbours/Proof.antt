@@ -7,7 +7,8 @@ use mathlib.Core.Logic.{⊎-elim}
 use native.Mathlib.Omega.{arith}
 use Rattle.plan.specs.Overlap.{overlaps}
 use Rattle.plan.proofs.Counted.{windows-few}
-use Rattle.path.proofs.Neighbouring.{Listed, listed-start, listed-room, listed-more, listed-kept, listed-end, counted-few, listing-room, listing-neighbours}
+use Rattle.path.proofs.Neighbouring.{Listed, listed-start, listed-room, listed-more}
+use Rattle.path.proofs.Neighbouring.{listed-kept, listed-end, counted-few, listing-room, listing-neighbours}
 use borrow.Author.Needs.{needs}
 use Rattle.path.proofs.neighbourhood.write_neighbours.Statement.{statement}
 use Rattle.path.proofs.neighbourhood.write_neighbours.Tie as tie
@@ -39,8 +40,10 @@ mul-out c = let d = c .before .before .before .before .before .before .before in
     omega (arith, windows-few (d .pre .0), counted-few _ _ (s .found) (s .position) (s .inv .so-far))
 
 slice-write-out : tie.Need-slice-write-out Inv-loop μ-loop
-slice-write-out c = let d = c .before .before .before .before .before .before .before in
-    listed-room _ _ _ _ (c .before .before .loop-test .taken) _ _ (sym (c .before .meets .ensures) ∙ c .if1 .taken) (listing-room _ _ _ (d .pre .0 .counted) _ (d .pre .1 .1)) (c .before .before .before .loop .inv)
+slice-write-out c = let e = c .before .before .before in let f = e .before .before .before .before in
+    let d = f in
+    listed-room _ _ _ _ (c .before .before .loop-test .taken) _ _ (sym (c .before .meets .ensures) ∙ c .if1 .taken)
+    (listing-room _ _ _ (d .pre .0 .counted) _ (d .pre .1 .1)) (e .loop .inv)
 
 add-found : tie.Need-add-found Inv-loop μ-loop
 add-found c = let s = c .before .before .before .loop in omega (arith, counted-few _ _ (s .found) (s .position) (s .inv .so-far))
@@ -52,12 +55,14 @@ loop-less : tie.Need-loop-less Inv-loop μ-loop
 loop-less c = search needs
 
 loop-again : tie.Need-loop-again Inv-loop μ-loop
-loop-again c = let d = c .before .before .before .before .before .before .before in
+loop-again c = let e = c .before .before .before in let f = e .before .before .before .before in
+    let d = f in
     let h = c .before .before .loop-test .taken in
-    let s = c .before .before .before .loop .inv in
+    let s = e .loop .inv in
     let read = sym (c .before .meets .ensures) in
     let room = listing-room _ _ _ (d .pre .0 .counted) _ (d .pre .1 .1) in
-    ⊎-elim (λ w. rw (w .1, w .2) (listed-more _ _ _ _ h _ _ (read ∙ w .0 .taken) room s)) (λ w. rw (w .1, w .2) (listed-kept _ _ _ _ h _ _ (read ∙ w .0 .left) s)) (c .if1 .came)
+    ⊎-elim (λ w. rw (w .1, w .2) (listed-more _ _ _ _ h _ _ (read ∙ w .0 .taken) room s))
+    (λ w. rw (w .1, w .2) (listed-kept _ _ _ _ h _ _ (read ∙ w .0 .left) s)) (c .if1 .came)
 
 same-length : tie.Need-same-length Inv-loop μ-loop
 same-length c = c .before .loop .inv .list .long

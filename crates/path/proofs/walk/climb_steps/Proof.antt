@@ -40,9 +40,11 @@ add-result c = let d = c .before .before .before .before .before .before .before
     omega (arith, handed-few (d .pre .0))
 
 returns : tie.Need-returns Inv-loop μ-loop
-returns c = let d = c .before .before .before .before .before .before .before in
-    let s = c .before .before .before .before .loop in
-    climbing-root _ _ _ _ _ _ (s .inv) (past-true _ _ _ (c .before .before .before .is-past .ensures) (c .before .before .if1 .taken)) (sym (c .if2 .taken) ∙ handed-parent (d .pre .0) _ (omega (arith, s .inv .fell)))
+returns c = let e = c .before .before .before in let f = e .before .before .before .before in
+    let d = f in
+    let s = e .before .loop in
+    climbing-root _ _ _ _ _ _ (s .inv) (past-true _ _ _ (e .is-past .ensures) (c .before .before .if1 .taken))
+    (sym (c .if2 .taken) ∙ handed-parent (d .pre .0) _ (omega (arith, s .inv .fell)))
 
 add-steps : tie.Need-add-steps Inv-loop μ-loop
 add-steps c = search needs
@@ -53,9 +55,11 @@ loop-less c = let d = c .before .before .before .before .before .before .before 
     omega (arith, handed-parent (d .pre .0) (s .at) (omega (arith, s .inv .fell)), parent-le (overlaps (now (d .args .file))) (s .at))
 
 loop-again : tie.Need-loop-again Inv-loop μ-loop
-loop-again c = let d = c .before .before .before .before .before .before .before in
-    let s = c .before .before .before .before .loop in
-    climbing-turn _ _ _ _ _ _ (s .inv) _ (past-true _ _ _ (c .before .before .before .is-past .ensures) (c .before .before .if1 .taken)) (handed-parent (d .pre .0) _ (omega (arith, s .inv .fell))) (c .if2 .left)
+loop-again c = let e = c .before .before .before in let f = e .before .before .before .before in
+    let d = f in
+    let s = e .before .loop in
+    climbing-turn _ _ _ _ _ _ (s .inv) _ (past-true _ _ _ (e .is-past .ensures) (c .before .before .if1 .taken))
+    (handed-parent (d .pre .0) _ (omega (arith, s .inv .fell))) (c .if2 .left)
 
 returns-2 : tie.Need-returns-2 Inv-loop μ-loop
 returns-2 c = climbing-arrived _ _ _ _ _ _ (c .before .before .loop .inv) (past-false _ _ _ (c .before .is-past .ensures) (c .if1 .left))

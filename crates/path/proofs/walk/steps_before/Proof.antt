@@ -18,8 +18,15 @@ climb-steps-requires : tie.Need-climb-steps-requires
 climb-steps-requires c κs = search needs
 
 add-result : tie.Need-add-result
-add-result c = let d = c .before .before .before .before in
-    omega (arith, handed-few (d .pre .0), c .climb-steps .ensures, climb-few (windowCount (now (d .args .file))) (overlaps (now (d .args .file))) (d .args .earlier) (d .args .later))
+add-result c = let e = c .before .before .before .before in
+    let d = e in
+    omega (
+      arith,
+      handed-few (d .pre .0),
+      c .climb-steps .ensures,
+      climb-few (windowCount (now (d .args .file))) (overlaps (now (d .args .file)))
+          (d .args .earlier) (d .args .later),
+    )
 
 returns-2 : tie.Need-returns-2
 returns-2 c = steps-some _ _ _ _ (c .before .if1 .left) (c .climb-steps .ensures)

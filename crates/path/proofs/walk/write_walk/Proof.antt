@@ -43,9 +43,11 @@ loop-less : tie.Need-loop-less Inv-loop μ-loop
 loop-less c = search needs
 
 loop-again : tie.Need-loop-again Inv-loop μ-loop
-loop-again c = let d = c .before .before .before in
+loop-again c = let e = c .before .before .before in
+    let d = e in
     let s = c .before .before .loop in
-    stepping-turn _ _ _ _ _ _ _ (s .inv) _ (c .before .loop-test .taken) (d .pre .1 .1 .1) (handed-parent (d .pre .0) (s .at) (omega (arith, stepping-low _ _ _ _ _ _ _ (s .inv))))
+    stepping-turn _ _ _ _ _ _ _ (s .inv) _ (c .before .loop-test .taken) (d .pre .1 .1 .1)
+    (handed-parent (d .pre .0) (s .at) (omega (arith, stepping-low _ _ _ _ _ _ _ (s .inv))))
 
 cast-out-2 : tie.Need-cast-out-2 Inv-loop μ-loop
 cast-out-2 c = omega (arith, handed-few (c .before .before .pre .0))

@@ -23,8 +23,10 @@ overlap-in-order-requires-2 : tie.Need-overlap-in-order-requires-2
 overlap-in-order-requires-2 c κs = search needs
 
 returns-3 : tie.Need-returns-3
-returns-3 c = let q = c .before .before .before .before .before .pre in
-    meets-earlier _ (q .0) _ _ _ _ _ (q .1 .0) (c .before .before .window-at .ensures) (omega (arith, c .before .if2 .left, c .before .before .before .if1 .left)) (q .1 .1 .0) (c .overlap-in-order2 .ensures)
+returns-3 c = let d = c .before .before .before in
+    let q = d .before .before .pre in
+    meets-earlier _ (q .0) _ _ _ _ _ (q .1 .0) (c .before .before .window-at .ensures) (omega (arith, c .before .if2 .left, d .if1 .left)) (q .1 .1 .0)
+    (c .overlap-in-order2 .ensures)
 
 pub meets-spec : {M : Type 1} → statement M
 meets-spec =

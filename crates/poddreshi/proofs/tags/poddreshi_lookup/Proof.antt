@@ -28,8 +28,11 @@ pack-lookup-requires c κs = search needs
 
 returns : tie.Need-returns
 unfolding offsetAfter
-returns c = let told = c .before .before .lookup-refusal .ensures in
-    (c .pack-lookup .ensures ∙ ap packedLookup told, rw (← told) (⊎-elim (λ w. rw (w .2) (rw (w .1 .given .1))) (λ w. rw (w .2) (rw (w .1 .given .1))) (c .before .match .came)))
+returns c = let told = c .before .before .lookup-refusal .ensures in (
+  c .pack-lookup .ensures ∙ ap packedLookup told,
+  rw (← told) (⊎-elim (λ w. rw (w .2) (rw (w .1 .given .1))) (λ w. rw (w .2) (rw (w .1 .given .1)))
+      (c .before .match .came)),
+)
 
 pub poddreshi-lookup-spec : {M : Type 1} → statement M
 poddreshi-lookup-spec =

@@ -18,7 +18,8 @@ add-result c = omega arith
 
 returns : tie.Need-returns
 unfolding numbers
-returns c = sym (between-rising-near _ _ (c .before .before .before .if1 .taken) (⊎-elim (λ w. inl (w .taken)) (λ w. inr (ltb-true _ _ (w .2 .taken))) (c .if2 .came)))
+returns c = let d = c .before .before .before in
+    sym (between-rising-near _ _ (d .if1 .taken) (⊎-elim (λ w. inl (w .taken)) (λ w. inr (ltb-true _ _ (w .2 .taken))) (c .if2 .came)))
 
 add-result-2 : tie.Need-add-result-2
 add-result-2 c = omega arith
@@ -29,14 +30,16 @@ returns-2 c = sym (between-rising-far _ _ (c .before .before .before .before .be
 
 returns-3 : tie.Need-returns-3
 unfolding numbers
-returns-3 c = sym (between-falling-near _ _ (c .before .before .before .before .before .if1 .left) (c .before .before .if4 .taken) (ltb-true _ _ (c .if5 .taken)))
+returns-3 c = let d = c .before .before .before .before .before in
+    sym (between-falling-near _ _ (d .if1 .left) (c .before .before .if4 .taken) (ltb-true _ _ (c .if5 .taken)))
 
 add-result-3 : tie.Need-add-result-3
 add-result-3 c = omega arith
 
 returns-4 : tie.Need-returns-4
 unfolding numbers
-returns-4 c = sym (between-falling-far _ _ (c .before .before .before .if1 .left) (⊎-elim (λ w. inr (ltb-false _ _ (w .2 .left))) (λ w. inl (w .left)) (c .if4 .came)))
+returns-4 c = let d = c .before .before .before in
+    sym (between-falling-far _ _ (d .if1 .left) (⊎-elim (λ w. inr (ltb-false _ _ (w .2 .left))) (λ w. inl (w .left)) (c .if4 .came)))
 
 pub between-spec : {M : Type 1} → statement M
 between-spec =

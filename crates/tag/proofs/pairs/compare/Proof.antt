@@ -40,10 +40,12 @@ between-requires c κs = let d = c .before .before .before .before .before .befo
 
 returns-4 : tie.Need-returns-4
 unfolding numbers
-returns-4 c = let d = c .before .before .before in
+returns-4 c = let f = c .before .before .before in
+    let d = f in
     let e = d .before .before .before in
     ap Handovers (c .between .ensures)
-    ∙ compared-first _ _ (e .before .before .before .if1 .left) (e .if2 .left) (d .if3 .left) (sym (c .before .before .comes-first .ensures) ∙ c .before .if4 .taken)
+    ∙ compared-first _ _ (e .before .before .before .if1 .left) (e .if2 .left) (d .if3 .left)
+    (sym (c .before .before .comes-first .ensures) ∙ c .before .if4 .taken)
 
 between-requires-2 : tie.Need-between-requires-2
 unfolding numbers
@@ -52,10 +54,12 @@ between-requires-2 c κs = let d = c .before .before .before .before .before .be
 
 returns-5 : tie.Need-returns-5
 unfolding numbers
-returns-5 c = let d = c .before .before .before in
+returns-5 c = let f = c .before .before .before in
+    let d = f in
     let e = d .before .before .before in
     ap Handovers (c .between2 .ensures)
-    ∙ compared-second _ _ (e .before .before .before .if1 .left) (e .if2 .left) (d .if3 .left) (sym (c .before .before .comes-first .ensures) ∙ c .before .if4 .left)
+    ∙ compared-second _ _ (e .before .before .before .if1 .left) (e .if2 .left) (d .if3 .left)
+    (sym (c .before .before .comes-first .ensures) ∙ c .before .if4 .left)
 
 pub compare-spec : {M : Type 1} → statement M
 compare-spec =

@@ -13,11 +13,14 @@ use Rattle.tag.proofs.pairs.pair.Statement.{statement}
 use Rattle.tag.proofs.pairs.pair.Tie as tie
 
 -- Each tag's reading, once the tag is taken out of it.
-first-valid : (c : tie.After-known-told) → readAnswerOf (now (c .before .before .before .before .before .before .args .first)) ≡ Valid (c .before .first-read .given .0 .0)
+first-valid : (c : tie.After-known-told) → readAnswerOf (now (c .before .before .before .before .before .before .args .first))
+    ≡ Valid (c .before .first-read .given .0 .0)
 first-valid c = sym (c .before .before .before .read .ensures) ∙ c .before .first-read .given .1
 
-second-valid : (c : tie.After-known-told2) → readAnswerOf (now (c .before .before .before .before .before .before .before .before .before .before .args .second)) ≡ Valid (c .before .second-read .given .0 .0)
-second-valid c = sym (c .before .before .before .read2 .ensures) ∙ c .before .second-read .given .1
+second-valid : (c : tie.After-known-told2) → readAnswerOf (now
+    (c .before .before .before .before .before .before .before .before .before .before .args .second)) ≡ Valid (c .before .second-read .given .0 .0)
+second-valid c = let d = c .before .before .before in
+    sym (d .read2 .ensures) ∙ c .before .second-read .given .1
 
 read-requires : tie.Need-read-requires
 read-requires c κs = search needs

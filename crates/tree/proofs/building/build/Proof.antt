@@ -9,7 +9,8 @@ use Rattle.forest.proofs.Parented.{covered-all, covered-three}
 use Rattle.minutes.specs.SingleTable.{afterTable}
 use Rattle.minutes.proofs.SingleTabled.{table-fills}
 use Rattle.tree.specs.Build.{afterBuild, afterTags}
-use Rattle.tree.proofs.Built.{least-rooms, roots-counted, components-filled, depths-filled, ranks-filled, last-ranks-filled, numbers-filled, tags-filled, table-build-refused, table-build-filled}
+use Rattle.tree.proofs.Built.{least-rooms, roots-counted, components-filled, depths-filled, ranks-filled}
+use Rattle.tree.proofs.Built.{last-ranks-filled, numbers-filled, tags-filled, table-build-refused, table-build-filled}
 use borrow.Author.Needs.{needs}
 use Rattle.tree.proofs.building.build.Statement.{statement}
 use Rattle.tree.proofs.building.build.Tie as tie
