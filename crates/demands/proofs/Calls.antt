@@ -2,10 +2,7 @@
 -- their tag files are equal apart from the plan number.
 -- Assumes nothing.
 use Prim.Native.Nat.{ℕ, _<_}
-use mathlib.Core.Bool.{true, cond}
-use mathlib.Core.Path.{_≡_, refl, sym, ap, _∙_}
-use mathlib.Core.Logic.{_↔_, ⊎-elim}
-use mathlib.Core.List.{List, _++_}
+use mathlib.Core.{Bool.true, Bool.cond, Path._≡_, Path.refl, Path.sym, Path.ap, Path._∙_, Logic._↔_, Logic.⊎-elim, List.List, List._++_}
 use native.Mathlib.Omega.{arith}
 use lib.ListN.{drop}
 use borrow.Author.Tests.{lt-ltb, eqb-true, eq-eqb}

@@ -1,10 +1,8 @@
 -- Paper 01's cases marked P: one test over the table, and one law that turns the test into what a case says.
 -- Assumes nothing.
 use Prim.Native.Nat.{ℕ, _<_}
-use mathlib.Core.Bool.{Bool, true, false, _&&_, _||_}
-use mathlib.Core.Path.{_≡_, refl, ap}
-use mathlib.Core.Logic.{inl, inr, ⊎-elim}
-use mathlib.Core.List.{List, [], _∷_, List·Memᴰ, List·Memᴰ·not-nil, List·Memᴰ·cases-cons}
+use mathlib.Core.{Bool.Bool, Bool.true, Bool.false, Bool._&&_, Bool._||_, Path._≡_, Path.refl, Path.ap, Logic.inl, Logic.inr, Logic.⊎-elim}
+use mathlib.Core.{List.List, List.[], List._∷_, List.List·Memᴰ, List.List·Memᴰ·not-nil, List.List·Memᴰ·cases-cons}
 use lib.Dec.{ltb, eqb}
 use borrow.Author.Tests.{ltb-true, eqb-true}
 use Rattle.sequences.proofs.Tests.{and-left, and-right, or-cases}

@@ -2,10 +2,8 @@
 -- the plan answers with.
 -- Assumes nothing.
 use Prim.Native.Nat.{ℕ, suc, _≤_, _<_}
-use mathlib.Core.Bool.{true, false, _&&_}
-use mathlib.Core.Path.{_≡_, refl, sym, ap, _∙_}
-use mathlib.Core.Logic.{_↔_, ⊎-elim}
-use mathlib.Core.List.{List, [], _∷_}
+use mathlib.Core.{Bool.true, Bool.false, Bool._&&_, Path._≡_, Path.refl, Path.sym, Path.ap, Path._∙_, Logic._↔_, Logic.⊎-elim, List.List}
+use mathlib.Core.{List.[], List._∷_}
 use native.Mathlib.Omega.{arith}
 use lib.ListN.{length, take}
 use lib.Dec.{eqb, leb}

@@ -1,9 +1,7 @@
 -- Demand 2.
 -- Assumes nothing.
 use Prim.Native.Nat.{ℕ, _≤_, _<_, _*_}
-use mathlib.Core.Bool.{true}
-use mathlib.Core.Path.{_≡_, refl, sym}
-use mathlib.Core.List.{List}
+use mathlib.Core.{Bool.true, Path._≡_, Path.refl, Path.sym, List.List}
 use native.Mathlib.Omega.{arith}
 use borrow.Author.Tests.{le-leb}
 use Rattle.sequences.specs.Table.{overwritten}

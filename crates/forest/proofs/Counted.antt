@@ -3,10 +3,8 @@
 -- with the children up to a position).
 -- Assumes nothing.
 use Prim.Native.Nat.{ℕ, suc, _+_, _-_, _≤_, _<_}
-use mathlib.Core.Bool.{Bool, true, false, _&&_}
-use mathlib.Core.Path.{_≡_, refl, sym, ap, _∙_}
-use mathlib.Core.Logic.{⊎-elim}
-use mathlib.Core.List.{[], _++_}
+use mathlib.Core.{Bool.Bool, Bool.true, Bool.false, Bool._&&_, Path._≡_, Path.refl, Path.sym, Path.ap, Path._∙_, Logic.⊎-elim, List.[]}
+use mathlib.Core.{List._++_}
 use native.Mathlib.Omega.{arith}
 use lib.Dec.{ltb, eqb}
 use borrow.Author.Tests.{ltb-true, eqb-true, lt-ltb, eq-eqb}

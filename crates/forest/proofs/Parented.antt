@@ -2,8 +2,7 @@
 -- points behind.
 -- Assumes nothing.
 use Prim.Native.Nat.{ℕ, _≤_, _<_, min}
-use mathlib.Core.Path.{_≡_, refl}
-use mathlib.Core.List.{List, [], _∷_}
+use mathlib.Core.{Path._≡_, Path.refl, List.List, List.[], List._∷_}
 use native.Mathlib.Omega.{arith}
 use Rattle.sequences.specs.Table.{table, Holds}
 use Rattle.interval_graph.specs.Forest.{Forest}

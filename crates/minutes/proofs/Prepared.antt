@@ -2,10 +2,7 @@
 -- Vocabulary: earlier-overlaps, offsets-do-not-fall, parent-found, Fingers, last-found.
 -- Assumes nothing.
 use Prim.Native.Nat.{ℕ, _+_, _≤_, _<_}
-use mathlib.Core.Bool.{true, false}
-use mathlib.Core.Path.{_≡_, sym, _∙_}
-use mathlib.Core.Logic.{⊎-elim}
-use mathlib.Core.List.{List}
+use mathlib.Core.{Bool.true, Bool.false, Path._≡_, Path.sym, Path._∙_, Logic.⊎-elim, List.List}
 use native.Mathlib.Omega.{arith}
 use native.Mathlib.Nat.{le-antisymm}
 use lib.ListN.{length, getD, set}

@@ -1,10 +1,7 @@
 -- The searches inside the passes: their invariants and turns, over any bounds and any table of offsets.
 -- Assumes nothing.
 use Prim.Native.Nat.{ℕ, _+_, _-_, _*_, _≤_, _<_}
-use mathlib.Core.Bool.{Bool, true, false}
-use mathlib.Core.Path.{_≡_, refl}
-use mathlib.Core.Logic.{⊎-elim}
-use mathlib.Core.List.{List}
+use mathlib.Core.{Bool.Bool, Bool.true, Bool.false, Path._≡_, Path.refl, Logic.⊎-elim, List.List}
 use native.Mathlib.Omega.{arith}
 use lib.ListN.{getD}
 use lib.Dec.{ltb}

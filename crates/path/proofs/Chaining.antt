@@ -1,8 +1,7 @@
 -- The answers of `chain` after each test, over plain numbers and lists.
 -- Assumes nothing.
 use Prim.Native.Nat.{ℕ}
-use mathlib.Core.Path.{_≡_, sym, _∙_}
-use mathlib.Core.List.{List, [], _∷_}
+use mathlib.Core.{Path._≡_, Path.sym, Path._∙_, List.List, List.[], List._∷_}
 use lib.ListN.{length}
 use Rattle.interval_graph.proofs.ShortestChain.{chain-symmetric}
 use Rattle.refusals.specs.declared.Refusal.{Refusal}

@@ -3,9 +3,7 @@
 -- Vocabulary: Climbing.
 -- Assumes nothing.
 use Prim.Native.Nat.{ℕ, suc, _+_, _-_, _≤_, _<_}
-use mathlib.Core.Bool.{Bool, true, false, not}
-use mathlib.Core.Path.{_≡_, sym, _∙_}
-use mathlib.Core.Logic.{⊎-elim}
+use mathlib.Core.{Bool.Bool, Bool.true, Bool.false, Bool.not, Path._≡_, Path.sym, Path._∙_, Logic.⊎-elim, List.List}
 use native.Mathlib.Omega.{arith}
 use native.Mathlib.Numerals.{add-one}
 use lib.Dec.{ltb, leb}
@@ -19,7 +17,6 @@ use Rattle.interval_graph.proofs.Last.{last-ge, overlap-last, last-overlap}
 use Rattle.interval_graph.proofs.Parent.{parent-le, tree}
 use Rattle.interval_graph.proofs.Ancestor.{ancestor-zero, ancestor-suc, ancestor-add}
 use Rattle.interval_graph.proofs.Depth.{fixed-stays}
-use mathlib.Core.List.{List}
 use lib.ListN.{length, getD}
 use Rattle.plan.specs.File.{windowCount}
 use Rattle.plan.specs.Overlap.{overlaps}

@@ -2,10 +2,7 @@
 -- step, and empty exactly if no chain joins the two; the neighbours are the windows that overlap, and never the window itself.
 -- Assumes nothing.
 use Prim.Native.Nat.{ℕ, _<_}
-use mathlib.Core.Bool.{true}
-use mathlib.Core.Path.{_≡_}
-use mathlib.Core.Logic.{_↔_}
-use mathlib.Core.List.{List, [], List·Memᴰ}
+use mathlib.Core.{Bool.true, Path._≡_, Logic._↔_, List.List, List.[], List.List·Memᴰ}
 use native.Mathlib.Omega.{arith}
 use Rattle.sequences.proofs.Tests.{true-false-absurd}
 use Rattle.sequences.proofs.Passing.{passing-sound, passing-complete}

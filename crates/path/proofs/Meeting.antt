@@ -1,9 +1,7 @@
 -- When two windows of an accepted plan overlap, as the code asks it: they are two, and the later begins before the bound of the earlier.
 -- Assumes nothing.
 use Prim.Native.Nat.{ℕ, _<_}
-use mathlib.Core.Bool.{Bool, false}
-use mathlib.Core.Path.{_≡_, sym, _∙_}
-use mathlib.Core.List.{List}
+use mathlib.Core.{Bool.Bool, Bool.false, Path._≡_, Path.sym, Path._∙_, List.List}
 use Rattle.plan.specs.declared.windows.Window.{Window}
 use Rattle.plan.specs.File.{windowCount, windowAt}
 use Rattle.plan.specs.Overlap.{overlaps, overlapInOrder}

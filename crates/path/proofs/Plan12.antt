@@ -1,7 +1,6 @@
 -- Paper 01's plan 12, from its bytes: chains and neighbours come out of the definitions by computation.
 -- Assumes nothing.
-use mathlib.Core.Path.{_≡_, refl}
-use mathlib.Core.List.{[], _∷_}
+use mathlib.Core.{Path._≡_, Path.refl, List.[], List._∷_}
 use Rattle.interval_graph.specs.Walk.{climb, walk, chainOf}
 use Rattle.sequences.specs.Search.{passing}
 use Rattle.plan.proofs.Plan12.{file, meaning}

@@ -1,8 +1,7 @@
 -- Paper 01's plan 12 and smaller ones, from their bytes: sameness comes out of the definitions by computation.
 -- Assumes nothing.
 use Prim.Native.Nat.{ℕ}
-use mathlib.Core.Path.{_≡_, refl}
-use mathlib.Core.List.{[], _∷_}
+use mathlib.Core.{Path._≡_, Path.refl, List.[], List._∷_}
 use Rattle.sequences.specs.Search.{every}
 use Rattle.refusals.specs.Question.{from}
 use Rattle.plan.specs.declared.windows.Window.{Window}

@@ -4,10 +4,8 @@
 -- Vocabulary: pairs-iff-overlaps, lasts-pairs, same-iff-numbers, same-*.
 -- Assumes nothing.
 use Prim.Native.Nat.{ℕ}
-use mathlib.Core.Bool.{Bool, true, false, cond, Bool·beq}
-use mathlib.Core.Path.{_≡_, refl, sym, _∙_}
-use mathlib.Core.Logic.{_↔_}
-use mathlib.Core.List.{List}
+use mathlib.Core.{Bool.Bool, Bool.true, Bool.false, Bool.cond, Bool.Bool·beq, Path._≡_, Path.refl, Path.sym, Path._∙_, Logic._↔_}
+use mathlib.Core.{List.List}
 use native.Mathlib.Omega.{arith}
 use lib.ListN.{getD}
 use lib.Dec.{eqb}

@@ -2,8 +2,7 @@
 -- out of the definitions by computation.
 -- Assumes nothing.
 use Prim.Native.Nat.{ℕ}
-use mathlib.Core.Path.{_≡_, refl}
-use mathlib.Core.List.{List, [], _∷_}
+use mathlib.Core.{Path._≡_, Path.refl, List.List, List.[], List._∷_}
 use Rattle.refusals.specs.Question.{refusalBy, refusalFrom, from, positionQuestions}
 use Rattle.tag_bytes.specs.Fields.{tagBytes}
 use Rattle.tag_bytes.specs.TagFile.{lookupPart}

@@ -2,9 +2,7 @@
 -- Vocabulary: Within, within-limit, limit-within, length-tagBytes, tagOf-fields, tagOf-tagBytes, tagBytes-tagOf.
 -- Assumes nothing.
 use Prim.Native.Nat.{ℕ, _+_, _*_, _/_, _%_, _≤_, _<_}
-use mathlib.Core.Bool.{true, false}
-use mathlib.Core.Path.{_≡_, refl, sym, _∙_}
-use mathlib.Core.List.{List, _++_}
+use mathlib.Core.{Bool.true, Bool.false, Path._≡_, Path.refl, Path.sym, Path._∙_, List.List, List._++_}
 use native.Mathlib.Omega.{arith}
 use lib.ListN.{length, getD, take, drop}
 use lib.Seq.{take-all, take-add, drop-drop}

@@ -1,8 +1,7 @@
 -- Paper 01's plan 12 as a tag file: its bytes come out of the definitions by computation, and so does which refusal comes first.
 -- Assumes nothing.
 use Prim.Native.Nat.{ℕ}
-use mathlib.Core.Path.{_≡_, refl}
-use mathlib.Core.List.{List, [], _∷_, _++_, flatMap}
+use mathlib.Core.{Path._≡_, Path.refl, List.List, List.[], List._∷_, List._++_, List.flatMap}
 use Rattle.interval_graph.specs.Numbers.{numbersOf}
 use Rattle.interval_graph.proofs.Plan12.{definitions, overlaps}
 use Rattle.wire.specs.LittleEndian.{le16, bytes16}

@@ -1,10 +1,7 @@
 -- Build: room for each table, what each pass leaves in an accepted plan's tables, and the answer after each test.
 -- Assumes nothing.
 use Prim.Native.Nat.{ℕ, _*_, _/_, _≤_, _<_, min}
-use mathlib.Core.Bool.{true, false, _&&_}
-use mathlib.Core.Path.{_≡_, refl, sym, ap, _∙_}
-use mathlib.Core.Logic.{⊎-elim}
-use mathlib.Core.List.{List}
+use mathlib.Core.{Bool.true, Bool.false, Bool._&&_, Path._≡_, Path.refl, Path.sym, Path.ap, Path._∙_, Logic.⊎-elim, List.List}
 use lib.ListN.{getD}
 use lib.Dec.{leb}
 use native.Mathlib.Omega.{arith}

@@ -1,8 +1,7 @@
 -- Paper 01's plan 12, from its bytes: its tables, the numbers of its tags and its answers come out of the definitions by computation,
 -- and a refusal leaves a table as it was.
 -- Assumes nothing.
-use mathlib.Core.Path.{_≡_, refl}
-use mathlib.Core.List.{[], _∷_}
+use mathlib.Core.{Path._≡_, Path.refl, List.[], List._∷_}
 use Rattle.sequences.specs.Table.{table, overwritten}
 use Rattle.refusals.specs.Question.{refusalBy, roomQuestion}
 use Rattle.plan.proofs.Plan12.{file, meaning}

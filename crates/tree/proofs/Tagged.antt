@@ -2,9 +2,7 @@
 -- Vocabulary: Tagged, tagged-start, tagged-turn, tagged-end.
 -- Assumes nothing.
 use Prim.Native.Nat.{ℕ, _+_, _-_, _*_, _≤_, _<_}
-use mathlib.Core.Bool.{true}
-use mathlib.Core.Path.{_≡_, refl, sym, ap, _∙_}
-use mathlib.Core.List.{List, _++_, append-nil, flatMap}
+use mathlib.Core.{Bool.true, Path._≡_, Path.refl, Path.sym, Path.ap, Path._∙_, List.List, List._++_, List.append-nil, List.flatMap}
 use native.Mathlib.Omega.{arith}
 use native.Mathlib.Numerals.{add-one}
 use lib.ListN.{length, take, drop, length-drop}

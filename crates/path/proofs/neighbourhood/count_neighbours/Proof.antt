@@ -2,8 +2,7 @@
 -- windows.
 -- Assumes nothing.
 use Prim.Native.Nat.{_-_}
-use mathlib.Core.Path.{sym, _∙_}
-use mathlib.Core.Logic.{⊎-elim}
+use mathlib.Core.{Path.sym, Path._∙_, Logic.⊎-elim}
 use native.Mathlib.Omega.{arith}
 use Rattle.plan.specs.Overlap.{overlaps}
 use Rattle.path.proofs.Neighbouring.{Counted, counted-start, counted-more, counted-kept, counted-few, counted-end, listing-neighbours}

@@ -1,8 +1,7 @@
 -- `poddreshi::tags::poddreshi_lookup` meets its contract: the answer of the call below it, packed, and where that found the tag
 -- its offset, which lies within the tag file and so fits.
 -- Assumes nothing.
-use mathlib.Core.Path.{sym, ap, _∙_}
-use mathlib.Core.Logic.{⊎-elim}
+use mathlib.Core.{Path.sym, Path.ap, Path._∙_, Logic.⊎-elim}
 use native.Mathlib.Omega.{arith}
 use Rattle.tag_bytes.proofs.TagFile.{found-within}
 use Rattle.packing.specs.Packing.{packedLookup}

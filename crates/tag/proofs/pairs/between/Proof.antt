@@ -1,7 +1,6 @@
 -- `tag::pairs::between` meets its contract: its four answers are the four cases of the rule.
 -- Assumes nothing.
-use mathlib.Core.Path.{sym}
-use mathlib.Core.Logic.{inl, inr, ⊎-elim}
+use mathlib.Core.{Path.sym, Logic.inl, Logic.inr, Logic.⊎-elim}
 use native.Mathlib.Omega.{arith}
 use borrow.Author.Tests.{ltb-true, ltb-false}
 use Rattle.interval_graph.proofs.Outcome.{between-rising-near, between-rising-far, between-falling-near, between-falling-far}
