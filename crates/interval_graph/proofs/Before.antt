@@ -3,25 +3,19 @@
 -- Vocabulary: rank, Before.
 -- Assumes nothing.
 use Prim.Native.Nat.{ℕ, suc, _+_, _-_, _≤_, _<_}
-use mathlib.Core.Bool.{Bool}
-use mathlib.Core.Path.{_≡_, sym, _∙_}
-use mathlib.Core.Logic.{⊎-elim, _↔_}
+use mathlib.Core.{Bool.Bool, Path._≡_, Path.sym, Path._∙_, Logic.⊎-elim, Logic._↔_}
 use mathlib.Core.List.{[], _∷_, flatMap, List·Memᴰ, List·Memᴰ·eq-of-singleton, List·Memᴰ·not-nil}
 use native.Mathlib.Omega.{arith}
-use Rattle.sequences.proofs.Tests.{lt-or-ge}
-use Rattle.sequences.proofs.FlatMap.{flatMap-sound}
+use Rattle.sequences.proofs.{Tests.lt-or-ge, FlatMap.flatMap-sound}
 use Rattle.sequences.proofs.Pairwise.{Pairwise, pairwise-append, pairwise-flatMap, pairwise-index}
-use Rattle.interval_graph.specs.Order.{IntervalOrder}
-use Rattle.interval_graph.specs.Tree.{parent, ancestor, depth, root, component, rank}
+use Rattle.interval_graph.specs.{Order.IntervalOrder, Tree.parent, Tree.ancestor, Tree.depth, Tree.root, Tree.component, Tree.rank}
 use Rattle.interval_graph.specs.Forest.{children, postOrder}
 use Rattle.interval_graph.specs.Forest as Forest
-use Rattle.interval_graph.proofs.Monotone.{ancestor-monotone}
-use Rattle.interval_graph.proofs.Ancestor.{ancestor-zero, ancestor-add, ancestor-below}
-use Rattle.interval_graph.proofs.Depth.{root-le}
-use Rattle.interval_graph.proofs.Component.{component-root}
-use Rattle.interval_graph.proofs.PostOrder.{Child, Under, children-sound, children-rise, child-depth, by-children, postOrder-children, under-child, postOrder-sound}
-use Rattle.interval_graph.proofs.Rank.{rank-injective, rank-member}
-use Rattle.interval_graph.proofs.Parent.{tree}
+use Rattle.interval_graph.proofs.{Monotone.ancestor-monotone, Ancestor.ancestor-zero, Ancestor.ancestor-add, Ancestor.ancestor-below}
+use Rattle.interval_graph.proofs.{Depth.root-le, Component.component-root}
+use Rattle.interval_graph.proofs.PostOrder.{Child, Under, children-sound, children-rise, child-depth, by-children}
+use Rattle.interval_graph.proofs.PostOrder.{postOrder-children, under-child, postOrder-sound}
+use Rattle.interval_graph.proofs.{Rank.rank-injective, Rank.rank-member, Parent.tree}
 
 -- x comes before y: if it is no deeper, it stands before y's ancestor on its own level; if it is deeper, its ancestor
 -- on y's level does not stand behind y.

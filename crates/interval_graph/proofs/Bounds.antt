@@ -3,25 +3,18 @@
 -- Vocabulary: component, depth, rank, lastRank, LeastHandovers.
 -- Assumes nothing.
 use Prim.Native.Nat.{ℕ, zero, suc, _-_, _≤_, _<_}
-use mathlib.Core.Bool.{Bool}
-use mathlib.Core.Path.{_≡_, refl, sym, ap, _∙_}
-use mathlib.Core.Logic.{⊎-elim}
+use mathlib.Core.{Bool.Bool, Path._≡_, Path.refl, Path.sym, Path.ap, Path._∙_, Logic.⊎-elim}
 use native.Mathlib.Omega.{arith}
 use Rattle.sequences.proofs.Tests.{lt-or-ge}
-use Rattle.interval_graph.specs.Order.{IntervalOrder}
-use Rattle.interval_graph.specs.Chain.{handovers, LeastHandovers}
+use Rattle.interval_graph.specs.{Order.IntervalOrder, Chain.handovers, Chain.LeastHandovers}
 use Rattle.interval_graph.specs.Tree.{last, parent, ancestor, depth, root, component, rank, lastRank}
 use Rattle.interval_graph.specs.Walk.{climb, chainOf}
-use Rattle.interval_graph.proofs.Last.{last-ge, last-below}
-use Rattle.interval_graph.proofs.Parent.{parent-last, tree}
+use Rattle.interval_graph.proofs.{Last.last-ge, Last.last-below, Parent.parent-last, Parent.tree}
 use Rattle.interval_graph.proofs.Ancestor.{ancestor-suc, ancestor-below}
 use Rattle.interval_graph.proofs.Depth.{depth-le, root-le, ancestor-sum, ancestor-past}
-use Rattle.interval_graph.proofs.Chains.{handovers-alone, least-handovers-joined}
-use Rattle.interval_graph.proofs.Climb.{climb-before, climb-le-depth}
+use Rattle.interval_graph.proofs.{Chains.handovers-alone, Chains.least-handovers-joined, Climb.climb-before, Climb.climb-le-depth}
 use Rattle.interval_graph.proofs.ShortestChain.{chain-same, chain-symmetric, joined-root, least-is-chain}
-use Rattle.interval_graph.proofs.Rank.{rank-lt}
-use Rattle.interval_graph.proofs.Rule.{chain-handovers}
-use Rattle.interval_graph.proofs.Component.{component-le}
+use Rattle.interval_graph.proofs.{Rank.rank-lt, Rule.chain-handovers, Component.component-le}
 
 module _ {n : ℕ} {overlaps : ℕ → ℕ → Bool} (ok : IntervalOrder n overlaps) where
   -- The rank of its last is below the number of windows.

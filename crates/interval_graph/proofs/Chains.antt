@@ -3,13 +3,10 @@
 -- Vocabulary: isChain, leads, joins, handovers, firstEntry, lastEntry, fromLater, LeastHandovers, Shortest.
 -- Assumes nothing.
 use Prim.Native.Nat.{ℕ, zero, suc, _-_, _≤_, _<_, min, max}
-use mathlib.Core.Bool.{Bool, true, cond, _&&_}
-use mathlib.Core.Path.{_≡_, refl, sym, ap, _∙_}
-use mathlib.Core.Logic.{_⊎_, ⊎-elim}
+use mathlib.Core.{Bool.Bool, Bool.true, Bool.cond, Bool._&&_, Path._≡_, Path.refl, Path.sym, Path.ap, Path._∙_, Logic._⊎_, Logic.⊎-elim}
 use mathlib.Core.List.{List, [], _∷_, _++_, reverse, reverse-cons, reverse-reverse}
 use native.Mathlib.Omega.{arith}
-use lib.Dec.{ltb, eqb}
-use lib.ListN.{getD, length-reverse}
+use lib.{Dec.ltb, Dec.eqb, ListN.getD, ListN.length-reverse}
 use borrow.Author.Tests.{ltb-true, lt-ltb, eqb-true, eqb-false, eq-eqb}
 use Rattle.sequences.specs.Table.{table}
 use Rattle.sequences.proofs.Tests.{cond-cases, and-left, and-right, and-intro, or-cases, or-left, or-right, true-false-absurd}

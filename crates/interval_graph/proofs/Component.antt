@@ -2,11 +2,9 @@
 -- Vocabulary: component, root, isRoot.
 -- Assumes nothing.
 use Prim.Native.Nat.{ℕ, suc, _+_, _-_, _≤_, _<_}
-use mathlib.Core.Path.{_≡_, ap}
-use mathlib.Core.Logic.{⊎-elim}
+use mathlib.Core.{Path._≡_, Path.ap, Logic.⊎-elim}
 use native.Mathlib.Omega.{arith}
-use Rattle.sequences.specs.Search.{count}
-use Rattle.sequences.proofs.Tests.{lt-or-ge}
+use Rattle.sequences.{specs.Search.count, proofs.Tests.lt-or-ge}
 use Rattle.sequences.proofs.Search.{count-true, count-monotone, count-le}
 use Rattle.interval_graph.specs.Forest.{isRoot, root, component, Forest}
 use Rattle.interval_graph.proofs.Depth.{root-is-root, root-le}

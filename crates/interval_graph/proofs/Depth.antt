@@ -2,13 +2,10 @@
 -- Vocabulary: isRoot, depth, root.
 -- Assumes nothing.
 use Prim.Native.Nat.{ℕ, zero, suc, _+_, _-_, _≤_, _<_}
-use mathlib.Core.Bool.{true, false}
-use mathlib.Core.Path.{_≡_, refl, sym, ap, _∙_}
-use mathlib.Core.Logic.{⊎-elim}
+use mathlib.Core.{Bool.true, Bool.false, Path._≡_, Path.refl, Path.sym, Path.ap, Path._∙_, Logic.⊎-elim}
 use native.Mathlib.Omega.{arith}
 use borrow.Author.Tests.{eqb-true, eqb-false, eq-eqb, ne-eqb}
-use Rattle.sequences.proofs.Tests.{lt-or-ge}
-use Rattle.sequences.proofs.Search.{least-le, least-holds, least-before, least-minimal}
+use Rattle.sequences.proofs.{Tests.lt-or-ge, Search.least-le, Search.least-holds, Search.least-before, Search.least-minimal}
 use Rattle.interval_graph.specs.Forest.{isRoot, ancestor, depth, root, Forest}
 use Rattle.interval_graph.proofs.Ancestor.{ancestor-zero, ancestor-parent, ancestor-add, ancestor-le, ancestor-antitone}
 

@@ -4,24 +4,18 @@
 -- Vocabulary: climb, last, rank.
 -- Assumes nothing.
 use Prim.Native.Nat.{ℕ, zero, suc, _+_, _≤_, _<_}
-use mathlib.Core.Bool.{Bool, _&&_, _||_}
-use mathlib.Core.Path.{_≡_, sym, ap, _∙_}
-use mathlib.Core.Logic.{_⊎_, inl, inr, ⊎-elim}
+use mathlib.Core.{Bool.Bool, Bool._&&_, Bool._||_, Path._≡_, Path.sym, Path.ap, Path._∙_, Logic._⊎_, Logic.inl, Logic.inr, Logic.⊎-elim}
 use native.Mathlib.Omega.{arith}
 use lib.Dec.{ltb, leb}
 use borrow.Author.Tests.{lt-ltb, le-ltb, le-leb, lt-leb}
 use Rattle.sequences.proofs.Tests.{lt-or-ge, and-true-right, and-false-right, or-false-right, or-right}
 use Rattle.interval_graph.specs.Order.{IntervalOrder}
-use Rattle.interval_graph.specs.Tree.{last, parent, ancestor, depth, root, rank}
-use Rattle.interval_graph.specs.Walk.{climb}
-use Rattle.interval_graph.proofs.Last.{last-ge, last-below}
-use Rattle.interval_graph.proofs.Parent.{parent-le, parent-least, tree}
+use Rattle.interval_graph.specs.{Tree.last, Tree.parent, Tree.ancestor, Tree.depth, Tree.root, Tree.rank, Walk.climb}
+use Rattle.interval_graph.proofs.{Last.last-ge, Last.last-below, Parent.parent-le, Parent.parent-least, Parent.tree}
 use Rattle.interval_graph.proofs.Ancestor.{ancestor-zero, ancestor-suc, ancestor-le, ancestor-below}
 use Rattle.interval_graph.proofs.Monotone.{shallower-earlier, last-root, last-depth-ge, last-depth-le}
 use Rattle.interval_graph.proofs.Depth.{root-le, depth-step, depth-ancestor, fixed-is-root, root-of-parent, root-of-ancestor}
-use Rattle.interval_graph.proofs.Climb.{climb-le, climb-gt, climb-le-position}
-use Rattle.interval_graph.proofs.Before.{rank-lt-iff}
-use Rattle.interval_graph.proofs.Rank.{rank-injective}
+use Rattle.interval_graph.proofs.{Climb.climb-le, Climb.climb-gt, Climb.climb-le-position, Before.rank-lt-iff, Rank.rank-injective}
 
 -- u before v in one component, v deeper by D.
 pub record Pair (n : ℕ) (overlaps : ℕ → ℕ → Bool) (u v D : ℕ) : Type 0 where

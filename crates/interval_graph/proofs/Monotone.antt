@@ -3,18 +3,16 @@
 -- Vocabulary: ancestor, root, depth, component, last.
 -- Assumes nothing.
 use Prim.Native.Nat.{ℕ, zero, suc, _+_, _-_, _≤_, _<_}
-use mathlib.Core.Bool.{Bool, true, false}
-use mathlib.Core.Path.{_≡_, sym, _∙_}
-use mathlib.Core.Logic.{_⊎_, inl, inr, ⊎-elim}
+use mathlib.Core.{Bool.Bool, Bool.true, Bool.false, Path._≡_, Path.sym, Path._∙_, Logic._⊎_, Logic.inl, Logic.inr, Logic.⊎-elim}
 use native.Mathlib.Omega.{arith}
 use Rattle.sequences.specs.Search.{count}
-use Rattle.sequences.proofs.Tests.{lt-or-ge, truth}
-use Rattle.sequences.proofs.Search.{count-true, count-false, count-none}
+use Rattle.sequences.proofs.{Tests.lt-or-ge, Tests.truth, Search.count-true, Search.count-false, Search.count-none}
 use Rattle.interval_graph.specs.Order.{IntervalOrder}
 use Rattle.interval_graph.specs.Tree.{last, parent, isRoot, ancestor, depth, root, component}
 use Rattle.interval_graph.specs.Forest as Forest
 use Rattle.interval_graph.proofs.Ancestor.{ancestor-below}
-use Rattle.interval_graph.proofs.Depth.{ancestor-past, depth-minimal, depth-step, fixed-depth, fixed-is-root, root-fixed, root-is-root, root-le, root-le-ancestor, root-of-parent}
+use Rattle.interval_graph.proofs.Depth.{ancestor-past, depth-minimal, depth-step, fixed-depth, fixed-is-root, root-fixed}
+use Rattle.interval_graph.proofs.Depth.{root-is-root, root-le, root-le-ancestor, root-of-parent}
 use Rattle.interval_graph.proofs.Component.{component-rises, root-component}
 use Rattle.interval_graph.proofs.Last.{last-below, last-ge, neighbour-le-last, overlap-last}
 use Rattle.interval_graph.proofs.Parent.{parent-le, parent-least, parent-monotone, tree}

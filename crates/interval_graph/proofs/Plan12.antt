@@ -2,18 +2,12 @@
 -- definitions by computation.
 -- Assumes nothing.
 use Prim.Native.Nat.{ℕ, _+_, min, max}
-use mathlib.Core.Bool.{Bool, true, not, _&&_}
-use mathlib.Core.Path.{_≡_, refl}
-use mathlib.Core.List.{List, [], _∷_, flatMap}
-use lib.ListN.{getD}
-use lib.Dec.{ltb, eqb}
-use Rattle.sequences.specs.Search.{least, greatest, count, passing}
-use Rattle.sequences.specs.Lists.{indexOf, total}
-use Rattle.sequences.specs.Table.{table}
+use mathlib.Core.{Bool.Bool, Bool.true, Bool.not, Bool._&&_, Path._≡_, Path.refl, List.List, List.[], List._∷_, List.flatMap}
+use lib.{ListN.getD, Dec.ltb, Dec.eqb}
+use Rattle.sequences.specs.{Search.least, Search.greatest, Search.count, Search.passing, Lists.indexOf, Lists.total, Table.table}
 use Rattle.interval_graph.specs.Chain.{handovers, isChain, leads, joins, firstEntry, lastEntry}
 use Rattle.interval_graph.specs.Tree.{last, parent, depth, component, rank, lastRank}
-use Rattle.interval_graph.specs.Walk.{climb, walk, chainOf}
-use Rattle.interval_graph.specs.Reach.{lastInComponent, reach}
+use Rattle.interval_graph.specs.{Walk.climb, Walk.walk, Walk.chainOf, Reach.lastInComponent, Reach.reach}
 use Rattle.interval_graph.specs.Numbers.{Outcome, numbersOf, apart, no-chain, equal, comesFirst, between, outcome}
 use Rattle.interval_graph.specs.Forest as Forest
 

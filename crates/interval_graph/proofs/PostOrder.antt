@@ -3,16 +3,14 @@
 -- Vocabulary: children, postOrder, Under (a window under another, so many steps down).
 -- Assumes nothing.
 use Prim.Native.Nat.{ℕ, zero, suc, _+_, _≤_, _<_}
-use mathlib.Core.Bool.{_&&_}
-use mathlib.Core.Path.{_≡_, refl, sym, ap, _∙_}
-use mathlib.Core.Logic.{⊎-elim, _↔_}
-use mathlib.Core.List.{List, [], _∷_, _++_, flatMap, List·Memᴰ, List·Memᴰ·head, Memᴰ·append-left, Memᴰ·append-right, List·Memᴰ·append-cases, List·Memᴰ·eq-of-singleton}
+use mathlib.Core.{Bool._&&_, Path._≡_, Path.refl, Path.sym, Path.ap, Path._∙_, Logic.⊎-elim, Logic._↔_}
+use mathlib.Core.List.{List, [], _∷_, _++_, flatMap, List·Memᴰ, List·Memᴰ·head, Memᴰ·append-left, Memᴰ·append-right, List·Memᴰ·append-cases}
+use mathlib.Core.List.{List·Memᴰ·eq-of-singleton}
 use native.Mathlib.Omega.{arith}
 use lib.Dec.{ltb, eqb}
 use borrow.Author.Tests.{ltb-true, eqb-true, lt-ltb, eq-eqb}
 use Rattle.sequences.proofs.Tests.{lt-or-ge, and-left, and-right, and-intro}
-use Rattle.sequences.proofs.Passing.{passing-sound, passing-complete}
-use Rattle.sequences.proofs.Pairwise.{Pairwise, passing-rises}
+use Rattle.sequences.proofs.{Passing.passing-sound, Passing.passing-complete, Pairwise.Pairwise, Pairwise.passing-rises}
 use Rattle.sequences.proofs.FlatMap.{flatMap-sound, flatMap-complete, flatMap-cong}
 use Rattle.interval_graph.specs.Forest.{ancestor, depth, root, component, children, postOrderTo, postOrder, Forest}
 use Rattle.interval_graph.proofs.Ancestor.{ancestor-zero, ancestor-suc, ancestor-le}

@@ -7,12 +7,12 @@ use mathlib.Core.Path.{_≡_, refl, sym, _∙_}
 use mathlib.Core.List.{[], _∷_, flatMap, List·Memᴰ, List·Memᴰ·eq-of-singleton, List·Memᴰ·not-nil}
 use native.Mathlib.Omega.{arith}
 use lib.ListN.{length, getD}
-use Rattle.sequences.specs.Lists.{indexOf}
-use Rattle.sequences.proofs.Lists.{index-below, index-at}
+use Rattle.sequences.{specs.Lists.indexOf, proofs.Lists.index-below, proofs.Lists.index-at}
 use Rattle.sequences.proofs.Pairwise.{Pairwise, pairwise-append, pairwise-flatMap, pairwise-once, pairwise-length}
 use Rattle.interval_graph.specs.Forest.{depth, root, rank, children, postOrder, Forest, size, start}
 use Rattle.interval_graph.proofs.Depth.{root-le, ancestor-past}
-use Rattle.interval_graph.proofs.PostOrder.{Child, children-sound, children-rise, child-depth, by-children, postOrder-children, postOrder-sound, postOrder-complete}
+use Rattle.interval_graph.proofs.PostOrder.{Child, children-sound, children-rise, child-depth, by-children, postOrder-children}
+use Rattle.interval_graph.proofs.PostOrder.{postOrder-sound, postOrder-complete}
 use Rattle.interval_graph.proofs.Size.{rank-size, not-below, under-unique}
 
 module _ (n : ℕ) {parent : ℕ → ℕ} (forest : Forest parent) where

@@ -2,22 +2,15 @@
 -- Vocabulary: lastInComponent, reach, LeastHandovers.
 -- Assumes nothing.
 use Prim.Native.Nat.{ℕ, _≤_, _<_}
-use mathlib.Core.Bool.{Bool}
-use mathlib.Core.Path.{_≡_, sym, ap, _∙_}
-use mathlib.Core.Logic.{⊎-elim}
+use mathlib.Core.{Bool.Bool, Path._≡_, Path.sym, Path.ap, Path._∙_, Logic.⊎-elim}
 use native.Mathlib.Omega.{arith}
 use lib.Dec.{eqb}
 use borrow.Author.Tests.{eqb-true, eq-eqb}
 use Rattle.sequences.proofs.Search.{greatest-ge, greatest-cases}
-use Rattle.interval_graph.specs.Order.{IntervalOrder}
-use Rattle.interval_graph.specs.Chain.{LeastHandovers}
-use Rattle.interval_graph.specs.Tree.{depth, root, component}
+use Rattle.interval_graph.specs.{Order.IntervalOrder, Chain.LeastHandovers, Tree.depth, Tree.root, Tree.component}
 use Rattle.interval_graph.specs.Reach.{lastInComponent, reach}
 use Rattle.interval_graph.proofs.Monotone.{depth-monotone}
-use Rattle.interval_graph.proofs.Component.{component-root}
-use Rattle.interval_graph.proofs.Climb.{climb-le-depth}
-use Rattle.interval_graph.proofs.Bounds.{least-le}
-use Rattle.interval_graph.proofs.Parent.{tree}
+use Rattle.interval_graph.proofs.{Component.component-root, Climb.climb-le-depth, Bounds.least-le, Parent.tree}
 
 module _ (n : ℕ) (overlaps : ℕ → ℕ → Bool) where
   -- The last window of v's component is a window.

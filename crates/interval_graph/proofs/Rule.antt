@@ -4,26 +4,21 @@
 -- Assumes nothing.
 use Prim.Native.Nat.{ℕ, zero, suc, _+_, _-_, _≤_, _<_, min, max}
 use mathlib.Core.Bool.{Bool, true, false, cond, _&&_, _||_}
-use mathlib.Core.Path.{_≡_, refl, sym, ap, _∙_}
-use mathlib.Core.Logic.{⊎-elim, _↔_}
+use mathlib.Core.{Path._≡_, Path.refl, Path.sym, Path.ap, Path._∙_, Logic.⊎-elim, Logic._↔_}
 use native.Mathlib.Omega.{arith}
 use lib.Dec.{ltb, leb, eqb}
 use borrow.Author.Tests.{ltb-true, ltb-false, leb-true, leb-false, eqb-true, lt-ltb, le-ltb, eq-eqb, ne-eqb}
 use Rattle.sequences.proofs.Tests.{cond-cases, lt-or-ge, equal-or-not, truth, and-left, and-right, and-intro, or-false-right, or-left, or-right}
-use Rattle.interval_graph.specs.Order.{IntervalOrder}
-use Rattle.interval_graph.specs.Chain.{handovers, Joined, LeastHandovers}
+use Rattle.interval_graph.specs.{Order.IntervalOrder, Chain.handovers, Chain.Joined, Chain.LeastHandovers}
 use Rattle.interval_graph.specs.Tree.{last, ancestor, depth, root, component, rank, lastRank}
 use Rattle.interval_graph.specs.Walk.{climb, walk, chainOf}
 use Rattle.interval_graph.specs.Numbers.{Numbers, numbersOf, apart, no-chain, equal, comesFirst, between, outcome}
-use Rattle.interval_graph.proofs.Ancestor.{ancestor-zero}
-use Rattle.interval_graph.proofs.Monotone.{depth-monotone}
+use Rattle.interval_graph.proofs.{Ancestor.ancestor-zero, Monotone.depth-monotone}
 use Rattle.interval_graph.proofs.Component.{root-component, component-root}
 use Rattle.interval_graph.proofs.Chains.{handovers-alone, least-handovers-joined}
-use Rattle.interval_graph.proofs.Climb.{climb-le-position}
-use Rattle.interval_graph.proofs.Walk.{walk-handovers}
+use Rattle.interval_graph.proofs.{Climb.climb-le-position, Walk.walk-handovers}
 use Rattle.interval_graph.proofs.ShortestChain.{chain-same, chain-walk, chain-symmetric, joined-root, root-joined, chain-least, least-is-chain}
-use Rattle.interval_graph.proofs.Before.{rank-lt-iff}
-use Rattle.interval_graph.proofs.Rank.{rank-injective}
+use Rattle.interval_graph.proofs.{Before.rank-lt-iff, Rank.rank-injective}
 use Rattle.interval_graph.proofs.Level.{Pair, climb-at-level, climb-past-level, climb-below-level, climb-to-level, ranks-at-level, ranks-below-level}
 use Rattle.interval_graph.proofs.Parent.{tree}
 

@@ -4,22 +4,19 @@
 -- Assumes nothing.
 use Prim.Native.Nat.{ℕ, _≤_, _<_}
 use mathlib.Core.Bool.{Bool, true, _&&_}
-use mathlib.Core.Path.{_≡_, refl, sym, ap, _∙_}
-use mathlib.Core.Logic.{⊎-elim, _↔_}
-use mathlib.Core.List.{List, [], _∷_}
+use mathlib.Core.{Path._≡_, Path.refl, Path.sym, Path.ap, Path._∙_, Logic.⊎-elim, Logic._↔_, List.List, List.[], List._∷_}
 use native.Mathlib.Omega.{arith}
 use lib.Dec.{ltb}
-use Rattle.sequences.proofs.Tests.{iff-equal, lt-or-ge}
-use Rattle.sequences.proofs.Search.{least-cong, greatest-cong}
+use Rattle.sequences.proofs.{Tests.iff-equal, Tests.lt-or-ge, Search.least-cong, Search.greatest-cong}
 use Rattle.interval_graph.specs.Order.{IntervalOrder}
 use Rattle.interval_graph.specs.Chain.{firstEntry, lastEntry, handovers, leads, LeastHandovers}
 use Rattle.interval_graph.specs.Tree.{last, parent, depth, component, rank, lastRank}
 use Rattle.interval_graph.specs.Numbers.{numbersOf, outcome}
 use Rattle.interval_graph.proofs.Last.{overlap-distinct, last-below, last-overlap, overlap-last}
-use Rattle.interval_graph.proofs.Chains.{chain-not-empty, chain-overlap, chain-alone, chain-cons, leads-chain, leads-first, leads-last, leads-intro, leads-joins, joins-cases}
+use Rattle.interval_graph.proofs.Chains.{chain-not-empty, chain-overlap, chain-alone, chain-cons, leads-chain, leads-first}
+use Rattle.interval_graph.proofs.Chains.{leads-last, leads-intro, leads-joins, joins-cases}
 use Rattle.interval_graph.proofs.Rule.{outcome-apart}
-use Rattle.interval_graph.proofs.Agreement.{component-agrees, depth-agrees, rank-agrees}
-use Rattle.interval_graph.proofs.Parent.{tree}
+use Rattle.interval_graph.proofs.{Agreement.component-agrees, Agreement.depth-agrees, Agreement.rank-agrees, Parent.tree}
 
 -- The same pairs of windows overlap.
 abbrev pub SameOverlaps : ℕ → (ℕ → ℕ → Bool) → (ℕ → ℕ → Bool) → Type 0

@@ -4,22 +4,20 @@
 -- Assumes nothing.
 use Prim.Native.Nat.{ℕ, _≤_, _<_, min, max}
 use mathlib.Core.Bool.{Bool, true, false}
-use mathlib.Core.Path.{_≡_, sym, ap, _∙_}
-use mathlib.Core.Logic.{⊎-elim, _↔_}
-use mathlib.Core.List.{List, [], _∷_}
+use mathlib.Core.{Path._≡_, Path.sym, Path.ap, Path._∙_, Logic.⊎-elim, Logic._↔_, List.List, List.[], List._∷_}
 use native.Mathlib.Omega.{arith}
 use lib.Dec.{leb, eqb}
 use borrow.Author.Tests.{eq-eqb, ne-eqb, le-leb, lt-leb}
 use Rattle.sequences.proofs.Tests.{lt-or-ge, equal-or-not}
 use Rattle.interval_graph.specs.Order.{IntervalOrder}
 use Rattle.interval_graph.specs.Chain.{firstEntry, lastEntry, handovers, leads, joins, Joined, LeastHandovers, fromLater, EarliestShortest}
-use Rattle.interval_graph.specs.Tree.{root, component}
-use Rattle.interval_graph.specs.Walk.{climb, walk, chainOf}
+use Rattle.interval_graph.specs.{Tree.root, Tree.component, Walk.climb, Walk.walk, Walk.chainOf}
 use Rattle.interval_graph.proofs.Component.{root-component, component-root}
-use Rattle.interval_graph.proofs.Chains.{chain-not-empty, leads-chain, leads-first, leads-last, joins-cases, leads-joins, joins-swap, joins-not-empty, later-leads, handovers-later, shortest-least, least-handovers-unique, least-handovers-joined}
+use Rattle.interval_graph.proofs.Chains.{chain-not-empty, leads-chain, leads-first, leads-last, joins-cases, leads-joins, joins-swap}
+use Rattle.interval_graph.proofs.Chains.{joins-not-empty, later-leads, handovers-later, shortest-least, least-handovers-unique}
+use Rattle.interval_graph.proofs.Chains.{least-handovers-joined}
 use Rattle.interval_graph.proofs.Climb.{climb-le-position, chain-root}
-use Rattle.interval_graph.proofs.Walk.{Best, walk-leads, walk-best, alone-best}
-use Rattle.interval_graph.proofs.Parent.{tree}
+use Rattle.interval_graph.proofs.{Walk.Best, Walk.walk-leads, Walk.walk-best, Walk.alone-best, Parent.tree}
 
 -- the equations a reader expects, of any overlap test
 

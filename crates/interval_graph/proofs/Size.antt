@@ -3,15 +3,12 @@
 -- Vocabulary: size, start, earlierSiblings, rank.
 -- Assumes nothing.
 use Prim.Native.Nat.{ℕ, zero, suc, _+_, _-_, _<_}
-use mathlib.Core.Bool.{Bool, true, _&&_}
-use mathlib.Core.Path.{_≡_, refl, sym, ap, _∙_}
+use mathlib.Core.{Bool.Bool, Bool.true, Bool._&&_, Path._≡_, Path.refl, Path.sym, Path.ap, Path._∙_}
 use mathlib.Core.List.{List, [], _∷_, _++_, append-assoc, flatMap, List·Memᴰ}
 use native.Mathlib.Omega.{arith}
-use lib.Dec.{ltb, eqb}
-use lib.ListN.{length, length-append}
+use lib.{Dec.ltb, Dec.eqb, ListN.length, ListN.length-append}
 use borrow.Author.Tests.{ltb-true, eqb-true, lt-ltb, eq-eqb}
-use Rattle.sequences.specs.Search.{passing}
-use Rattle.sequences.specs.Lists.{indexOf, total}
+use Rattle.sequences.specs.{Search.passing, Lists.indexOf, Lists.total}
 use Rattle.sequences.proofs.Tests.{and-left, and-right, and-intro}
 use Rattle.sequences.proofs.Passing.{passing-true, passing-add, passing-sound}
 use Rattle.sequences.proofs.Lists.{index-below, index-absent, index-here, index-append-left, index-append-right}
@@ -19,7 +16,8 @@ use Rattle.sequences.proofs.FlatMap.{flatMap-sound, flatMap-append, length-flat
 use Rattle.interval_graph.specs.Forest.{ancestor, depth, root, children, postOrder, rank, size, earlierSiblings, startTo, start, Forest}
 use Rattle.interval_graph.proofs.Ancestor.{ancestor-zero}
 use Rattle.interval_graph.proofs.Depth.{depth-step, fixed-depth, not-root-below, before-depth, ancestor-past}
-use Rattle.interval_graph.proofs.PostOrder.{Child, Under, children-sound, child-depth, postOrder-children, under-child, under-ge, under-root, postOrder-sound, postOrder-complete}
+use Rattle.interval_graph.proofs.PostOrder.{Child, Under, children-sound, child-depth, postOrder-children, under-child, under-ge}
+use Rattle.interval_graph.proofs.PostOrder.{under-root, postOrder-sound, postOrder-complete}
 
 module _ (n : ℕ) {parent : ℕ → ℕ} (forest : Forest parent) where
   -- size

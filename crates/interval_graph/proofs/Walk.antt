@@ -3,24 +3,18 @@
 -- Vocabulary: walk, climb, Best (of the chains from the later window to the earlier).
 -- Assumes nothing.
 use Prim.Native.Nat.{ℕ, zero, suc, _≤_, _<_}
-use mathlib.Core.Bool.{Bool, true}
-use mathlib.Core.Path.{_≡_, refl, ap, _∙_}
-use mathlib.Core.Logic.{⊎-elim}
-use mathlib.Core.List.{List, [], _∷_}
+use mathlib.Core.{Bool.Bool, Bool.true, Path._≡_, Path.refl, Path.ap, Path._∙_, Logic.⊎-elim, List.List, List.[], List._∷_}
 use native.Mathlib.Omega.{arith}
 use lib.ListN.{length, getD, length-append, List·getD-append}
-use Rattle.sequences.specs.Table.{table}
-use Rattle.sequences.proofs.Tests.{lt-or-ge}
-use Rattle.sequences.proofs.Table.{length-table, getD-table}
-use Rattle.interval_graph.specs.Order.{IntervalOrder}
-use Rattle.interval_graph.specs.Chain.{firstEntry, lastEntry, handovers, leads}
-use Rattle.interval_graph.specs.Tree.{last, parent, ancestor, root}
-use Rattle.interval_graph.specs.Walk.{climb, walk}
+use Rattle.sequences.{specs.Table.table, proofs.Tests.lt-or-ge, proofs.Table.length-table, proofs.Table.getD-table}
+use Rattle.interval_graph.specs.{Order.IntervalOrder, Chain.firstEntry, Chain.lastEntry, Chain.handovers, Chain.leads}
+use Rattle.interval_graph.specs.{Tree.last, Tree.parent, Tree.ancestor, Tree.root, Walk.climb, Walk.walk}
 use Rattle.interval_graph.proofs.Last.{last-ge, last-overlap}
 use Rattle.interval_graph.proofs.Parent.{parent-le, parent-last, parent-overlaps, tree}
 use Rattle.interval_graph.proofs.Ancestor.{ancestor-zero, ancestor-suc, ancestor-below}
 use Rattle.interval_graph.proofs.Depth.{fixed-root, root-unique, root-le-ancestor}
-use Rattle.interval_graph.proofs.Chains.{first-getD, last-getD, last-snoc, last-table, handovers-alone, chain-alone, chain-snoc, chain-table, chain-not-empty, leads-chain, leads-first, leads-last, leads-intro}
+use Rattle.interval_graph.proofs.Chains.{first-getD, last-getD, last-snoc, last-table, handovers-alone, chain-alone, chain-snoc}
+use Rattle.interval_graph.proofs.Chains.{chain-table, chain-not-empty, leads-chain, leads-first, leads-last, leads-intro}
 use Rattle.interval_graph.proofs.Climb.{climb-le, climb-before, climb-reaches, ancestor-le-chain, chain-climbs}
 
 -- Of the chains that lead from v to u, l has the fewest handovers, and of those with as few the earliest entry at

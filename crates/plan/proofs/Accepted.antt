@@ -2,15 +2,12 @@
 -- Vocabulary: Sound, accepted-sound, sound-accepted, accepted-validated, validated-accepted, offsets-sorted.
 -- Assumes nothing.
 use Prim.Native.Nat.{ℕ, zero, suc, _+_, _-_, _≤_, _<_}
-use mathlib.Core.Bool.{true}
-use mathlib.Core.Path.{_≡_, refl, _∙_}
-use mathlib.Core.List.{List, List·Memᴰ, List·Memᴰ·head, List·Memᴰ·tail}
+use mathlib.Core.{Bool.true, Path._≡_, Path.refl, Path._∙_, List.List, List.List·Memᴰ, List.List·Memᴰ·head, List.List·Memᴰ·tail}
 use native.Mathlib.Omega.{arith}
 use lib.ListN.{length}
 use borrow.Author.Tests.{leb-true, eqb-true, le-leb, eq-eqb}
 use Rattle.sequences.proofs.Tests.{and-intro}
-use Rattle.refusals.specs.declared.Refusal.{Refusal}
-use Rattle.refusals.specs.Question.{Question, question, each, allYes}
+use Rattle.refusals.specs.{declared.Refusal.Refusal, Question.Question, Question.question, Question.each, Question.allYes}
 use Rattle.refusals.proofs.Question.{all-first, first-all, all-member, all-append, append-left, append-right, all-each, each-all}
 use Rattle.plan.specs.declared.questions.Validation.the-variants.{Accepted, Refused}
 use Rattle.plan.specs.File.{headerLength, fileLength, planNumber, windowCount, windowAt, endOf}

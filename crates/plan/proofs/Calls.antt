@@ -1,16 +1,11 @@
 -- For calls that put questions 1 to 6 to a file by `validate` and then ask more.
 -- Assumes nothing.
 use Prim.Native.Nat.{ℕ}
-use mathlib.Core.Bool.{true, false}
-use mathlib.Core.Path.{_≡_, sym, _∙_}
-use mathlib.Core.Logic.{⊎-elim}
-use mathlib.Core.List.{List, [], _∷_, _++_}
+use mathlib.Core.{Bool.true, Bool.false, Path._≡_, Path.sym, Path._∙_, Logic.⊎-elim, List.List, List.[], List._∷_, List._++_}
 use native.Mathlib.Omega.{arith}
-use Rattle.refusals.specs.declared.Refusal.{Refusal}
-use Rattle.refusals.specs.Question.{Question, refusalFrom, from, firstNo}
+use Rattle.refusals.specs.{declared.Refusal.Refusal, Question.Question, Question.refusalFrom, Question.from, Question.firstNo}
 use Rattle.refusals.proofs.Question.{first-yes, first-no, first-append, first-from, first-map, first-cases}
-use Rattle.plan.specs.declared.questions.Validation.{Validation}
-use Rattle.plan.specs.declared.questions.Validation.the-variants.{Accepted, Refused}
+use Rattle.plan.specs.declared.questions.Validation.{Validation, the-variants.Accepted, the-variants.Refused}
 use Rattle.plan.specs.File.{planNumber, windowCount}
 use Rattle.plan.specs.Validation.{planQuestions, validateAnswerOf, AcceptedPlan}
 use Rattle.plan.proofs.Accepted.{validated-accepted}

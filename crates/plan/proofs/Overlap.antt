@@ -5,17 +5,13 @@
 -- Assumes nothing.
 use Prim.Native.Nat.{ℕ, _-_, _≤_, _<_, min, max}
 use mathlib.Core.Bool.{true, false, not, _&&_}
-use mathlib.Core.Path.{_≡_, refl, sym, _∙_}
-use mathlib.Core.Logic.{⊎-elim, _↔_, _≢_}
-use mathlib.Core.List.{List}
+use mathlib.Core.{Path._≡_, Path.refl, Path.sym, Path._∙_, Logic.⊎-elim, Logic._↔_, Logic._≢_, List.List}
 use native.Mathlib.Omega.{arith}
 use lib.Dec.{ltb, leb, eqb}
 use borrow.Author.Tests.{ltb-true, leb-true, eqb-false, lt-ltb, le-leb, ne-eqb, not-true}
-use Rattle.sequences.proofs.Search.{count-range}
-use Rattle.sequences.proofs.Tests.{truth, and-left, and-right, and-intro, iff-equal}
+use Rattle.sequences.proofs.{Search.count-range, Tests.truth, Tests.and-left, Tests.and-right, Tests.and-intro, Tests.iff-equal}
 use Rattle.interval_graph.specs.Order.{IntervalOrder}
-use Rattle.plan.specs.declared.windows.Window.{Window}
-use Rattle.plan.specs.File.{windowCount, windowAt, endOf}
+use Rattle.plan.specs.{declared.windows.Window.Window, File.windowCount, File.windowAt, File.endOf}
 use Rattle.plan.specs.Overlap.{covers, sharedMinutes, minimumHandover, overlaps, boundOf, overlapInOrder}
 use Rattle.plan.specs.Validation.{AcceptedPlan}
 use Rattle.plan.proofs.Accepted.{Sound, accepted-sound, offsets-sorted}

@@ -2,8 +2,7 @@
 -- alone.
 -- Assumes nothing.
 use Prim.Native.Nat.{ℕ}
-use mathlib.Core.Path.{_≡_, refl}
-use mathlib.Core.List.{List, [], _∷_, flatMap}
+use mathlib.Core.{Path._≡_, Path.refl, List.List, List.[], List._∷_, List.flatMap}
 use Rattle.sequences.specs.Table.{table}
 use Rattle.interval_graph.proofs.Plan12.{definitions, row, listing}
 use Rattle.wire.specs.LittleEndian.{le16, le32, bytes16, bytes32}

@@ -2,10 +2,8 @@
 -- Vocabulary: window-at, ask-*, refused-*, windows-answer, Passed, passed-*.
 -- Assumes nothing.
 use Prim.Native.Nat.{ℕ, _+_, _-_, _≤_, _<_}
-use mathlib.Core.Path.{_≡_, refl, ap}
-use mathlib.Core.List.{List}
-use native.Mathlib.Nat.{add-sub-cancel-left}
-use native.Mathlib.Numerals.{add-one}
+use mathlib.Core.{Path._≡_, Path.refl, Path.ap, List.List}
+use native.Mathlib.{Nat.add-sub-cancel-left, Numerals.add-one}
 use lib.ListN.{length, take, drop}
 use borrow.Author.Tests.{le-leb, lt-leb, eq-eqb, ne-eqb}
 use Rattle.refusals.specs.declared.Refusal.{Refusal}

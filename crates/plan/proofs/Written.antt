@@ -4,22 +4,19 @@
 -- accepted-fileOf.
 -- Assumes nothing.
 use Prim.Native.Nat.{ℕ, suc, _+_, _*_, _/_, _%_, _≤_, _<_}
-use mathlib.Core.Bool.{Bool, true, _&&_}
-use mathlib.Core.Path.{_≡_, refl, sym, ap, _∙_}
+use mathlib.Core.{Bool.Bool, Bool.true, Bool._&&_, Path._≡_, Path.refl, Path.sym, Path.ap, Path._∙_}
 use mathlib.Core.List.{List, [], _∷_, _++_, append-nil, flatMap}
 use native.Mathlib.Omega.{arith}
-use lib.ListN.{length, getD, take, drop, length-append}
-use lib.Seq.{drop-append-add}
-use lib.Dec.{leb}
+use lib.{ListN.length, ListN.getD, ListN.take, ListN.drop, ListN.length-append, Seq.drop-append-add, Dec.leb}
 use borrow.Author.Tests.{le-leb, eq-eqb}
-use Rattle.sequences.proofs.Tests.{and-true-right}
-use Rattle.sequences.proofs.Records.{length-records, record-part}
+use Rattle.sequences.proofs.{Tests.and-true-right, Records.length-records, Records.record-part}
 use Rattle.wire.specs.LittleEndian.{le16, le32, bytes16, bytes32, placed}
 use Rattle.wire.proofs.LittleEndian.{placed-behind, placed-short}
 use Rattle.refusals.specs.Question.{question, about, each, allYes}
 use Rattle.refusals.proofs.Question.{all-append, all-about}
 use Rattle.plan.specs.declared.windows.Window.{Window}
-use Rattle.plan.specs.File.{headerLength, windowLength, fileLength, windowPlace, planNumber, windowCount, windowOf, windowAt, headerBytes, windowBytes, fileOf}
+use Rattle.plan.specs.File.{headerLength, windowLength, fileLength, windowPlace, planNumber, windowCount, windowOf, windowAt}
+use Rattle.plan.specs.File.{headerBytes, windowBytes, fileOf}
 use Rattle.plan.specs.Validation.{greatestCount, offsetBefore, windowQuestions, fileQuestions, planQuestions}
 use Rattle.plan.proofs.Validation.{windowsAsked}
 

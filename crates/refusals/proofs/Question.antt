@@ -3,18 +3,14 @@
 -- Vocabulary: first-*, asked-*, all-*, each-*, Asking, asking-*.
 -- Assumes nothing.
 use Prim.Native.Nat.{ℕ, zero, suc, _+_, _-_, _≤_, _<_}
-use mathlib.Core.Bool.{true, false, _&&_}
-use mathlib.Core.Path.{_≡_, refl, sym, _∙_}
-use mathlib.Core.Logic.{_⊎_, inl, inr, ⊎-elim}
+use mathlib.Core.{Bool.true, Bool.false, Bool._&&_, Path._≡_, Path.refl, Path.sym, Path._∙_, Logic._⊎_, Logic.inl, Logic.inr, Logic.⊎-elim}
 use mathlib.Core.List.{List, [], _∷_, _++_, List·Memᴰ, List·Memᴰ·head, List·Memᴰ·tail, List·Memᴰ·not-nil, List·Memᴰ·cases-cons}
-use native.Mathlib.Omega.{arith}
-use native.Mathlib.Numerals.{add-one}
+use native.Mathlib.{Omega.arith, Numerals.add-one}
 use borrow.Author.Tests.{ltb-true, lt-ltb, le-ltb}
 use Rattle.sequences.proofs.Tests.{truth, and-left, and-right, and-intro, lt-or-ge}
-use Rattle.refusals.specs.declared.Refusal.{Refusal}
-use Rattle.refusals.specs.declared.Asked.{Asked}
-use Rattle.refusals.specs.declared.Asked.the-variants.{Passed, Refused}
-use Rattle.refusals.specs.Question.{Question, refusalBy, refusalFrom, refusalAbout, question, from, about, each, firstNo, allYes, askedOf, positionQuestion, positionQuestions}
+use Rattle.refusals.specs.declared.{Refusal.Refusal, Asked.Asked, Asked.the-variants.Passed, Asked.the-variants.Refused}
+use Rattle.refusals.specs.Question.{Question, refusalBy, refusalFrom, refusalAbout, question, from, about, each, firstNo, allYes}
+use Rattle.refusals.specs.Question.{askedOf, positionQuestion, positionQuestions}
 
 module _ {A : Type 0} (later : List Question) (refused : Refusal → A) (accepted : A) where
   -- A question that is answered "yes" is passed over.

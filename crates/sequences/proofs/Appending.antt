@@ -4,16 +4,12 @@
 -- Vocabulary: Written.
 -- Assumes nothing.
 use Prim.Native.Nat.{ℕ, zero, suc, _+_, _-_, _≤_, _<_}
-use mathlib.Core.Bool.{Bool, true, false}
-use mathlib.Core.Path.{_≡_, refl, sym, ap, _∙_}
+use mathlib.Core.{Bool.Bool, Bool.true, Bool.false, Path._≡_, Path.refl, Path.sym, Path.ap, Path._∙_}
 use mathlib.Core.List.{List, [], _∷_, _++_, append-assoc, append-nil}
 use native.Mathlib.Omega.{arith}
-use lib.ListN.{length, drop, set, getD, length-append, length-set}
-use lib.Seq.{set-at, drop-cons}
-use Rattle.sequences.specs.Search.{passing}
-use Rattle.sequences.specs.Table.{overwritten}
-use Rattle.sequences.proofs.Tests.{cond-cases}
-use Rattle.sequences.proofs.Passing.{passing-add, passing-true, passing-false}
+use lib.{ListN.length, ListN.drop, ListN.set, ListN.getD, ListN.length-append, ListN.length-set, Seq.set-at, Seq.drop-cons}
+use Rattle.sequences.specs.{Search.passing, Table.overwritten}
+use Rattle.sequences.proofs.{Tests.cond-cases, Passing.passing-add, Passing.passing-true, Passing.passing-false}
 
 -- The list `new` stands at the front of the table, and the rest is as it was.
 pub record Written {A : Type 0} (before now new : List A) : Type 0 where

@@ -3,21 +3,15 @@
 -- Vocabulary: Pairwise.
 -- Assumes nothing.
 use Prim.Native.Nat.{ℕ, zero, suc, _+_, _≤_, _<_}
-use mathlib.Core.Bool.{Bool}
-use mathlib.Core.Path.{_≡_, refl, sym, ap, _∙_}
-use mathlib.Core.Logic.{⊎-elim}
+use mathlib.Core.{Bool.Bool, Path._≡_, Path.refl, Path.sym, Path.ap, Path._∙_, Logic.⊎-elim}
 use mathlib.Core.List.{List, [], _∷_, _++_, flatMap, List·Memᴰ, List·Memᴰ·head, List·Memᴰ·tail, List·Memᴰ·not-nil, List·Memᴰ·cases-cons, List·Memᴰ·append-cases}
 use native.Mathlib.Omega.{arith}
-use lib.Dec.{ltb, eqb, leb·suc-suc}
-use lib.ListN.{length, getD}
+use lib.{Dec.ltb, Dec.eqb, Dec.leb·suc-suc, ListN.length, ListN.getD}
 use borrow.Author.Tests.{eqb-true, eqb-false, lt-ltb, le-ltb}
-use Rattle.sequences.specs.Search.{count, passing}
-use Rattle.sequences.specs.Lists.{indexOf}
+use Rattle.sequences.specs.{Search.count, Search.passing, Lists.indexOf}
 use Rattle.sequences.proofs.Tests.{cond-cases, truth}
-use Rattle.sequences.proofs.Search.{count-le, count-insert, count-none}
-use Rattle.sequences.proofs.Passing.{passing-sound}
-use Rattle.sequences.proofs.Lists.{index-here, index-there, index-absent, getD-member}
-use Rattle.sequences.proofs.FlatMap.{flatMap-sound}
+use Rattle.sequences.proofs.{Search.count-le, Search.count-insert, Search.count-none, Passing.passing-sound}
+use Rattle.sequences.proofs.{Lists.index-here, Lists.index-there, Lists.index-absent, Lists.getD-member, FlatMap.flatMap-sound}
 
 member-tail : (x z : ℕ) (l : List ℕ) → (x ≡ z → ⊥) → List·Memᴰ x (z ∷ l) → List·Memᴰ x l
 member-tail x z l d h = ⊎-elim (λ e. absurd (d e)) (λ g. g) (List·Memᴰ·cases-cons h)

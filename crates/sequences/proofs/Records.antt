@@ -3,15 +3,12 @@
 -- Vocabulary: length-records, record-part, records-turn.
 -- Assumes nothing.
 use Prim.Native.Nat.{ℕ, zero, suc, _+_, _*_, _<_}
-use mathlib.Core.Path.{_≡_, sym, _∙_}
-use mathlib.Core.List.{List, [], _∷_, _++_, append-assoc, append-nil, flatMap}
-use native.Mathlib.Omega.{arith}
-use native.Mathlib.Nat.{mul-zero, mul-suc}
+use mathlib.Core.{Path._≡_, Path.sym, Path._∙_, List.List, List.[], List._∷_, List._++_, List.append-assoc, List.append-nil, List.flatMap}
+use native.Mathlib.{Omega.arith, Nat.mul-zero, Nat.mul-suc}
 use lib.ListN.{length, getD, take, drop, length-append}
 use lib.Seq.{take-at, drop-at, drop-drop, drop-append-add}
 use Rattle.sequences.specs.Table.{table, overwritten}
-use Rattle.sequences.proofs.FlatMap.{flatMap-append}
-use Rattle.sequences.proofs.Table.{length-table}
+use Rattle.sequences.proofs.{FlatMap.flatMap-append, Table.length-table}
 
 module _ {A B : Type 0} (f : A → List B) (width : ℕ) (wide : (x : A) → length (f x) ≡ width) where
   -- As many records as there are elements.

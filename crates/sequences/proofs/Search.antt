@@ -1,11 +1,9 @@
 -- Laws of the bounded searches `least`, `greatest` and `count`.
 -- Assumes nothing.
 use Prim.Native.Nat.{ℕ, zero, suc, _+_, _-_, _≤_, _<_}
-use mathlib.Core.Bool.{Bool, true, false}
-use mathlib.Core.Path.{_≡_, refl, sym, ap, _∙_}
+use mathlib.Core.{Bool.Bool, Bool.true, Bool.false, Path._≡_, Path.refl, Path.sym, Path.ap, Path._∙_}
 use mathlib.Core.Logic.{_⊎_, inl, inr, ⊎-elim}
-use native.Mathlib.Omega.{arith}
-use native.Mathlib.Nat.{le-antisymm}
+use native.Mathlib.{Omega.arith, Nat.le-antisymm}
 use Rattle.sequences.specs.Search.{least, greatest, count}
 use Rattle.sequences.proofs.Tests.{cond-cases, truth, true-false-absurd, lt-or-ge}
 

@@ -2,10 +2,8 @@
 -- Assumes nothing.
 use Prim.Native.Nat.{ℕ, zero, suc, _+_, _-_, _≤_, _<_}
 use mathlib.Core.Path.{_≡_, refl, sym, ap, _∙_}
-use mathlib.Core.Logic.{⊎-elim}
-use mathlib.Core.List.{List, [], _∷_, _++_, append-assoc}
-use native.Mathlib.Omega.{arith}
-use native.Mathlib.Numerals.{add-one}
+use mathlib.Core.{Logic.⊎-elim, List.List, List.[], List._∷_, List._++_, List.append-assoc}
+use native.Mathlib.{Omega.arith, Numerals.add-one}
 use lib.ListN.{length, getD, take, drop, set, length-append, length-drop, length-set, List·getD-append}
 use lib.Seq.{set-at, drop-cons, take-at, getD-at, getD-drop, getD-append-add}
 use Rattle.sequences.specs.Table.{table, overwritten, Holds}
