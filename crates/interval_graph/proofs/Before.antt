@@ -40,7 +40,8 @@ module _ (overlaps : ℕ → ℕ → Bool) where
 
 module _ {n : ℕ} {overlaps : ℕ → ℕ → Bool} (ok : IntervalOrder n overlaps) where
   -- What is under the earlier of two windows of one level comes before what is under the later.
-  before-subtrees : (c d x y : ℕ) → c < d → depth overlaps c ≡ depth overlaps d → Under n (parent overlaps) c x → Under n (parent overlaps) d y → Before overlaps x y
+  before-subtrees : (c d x y : ℕ) → c < d → depth overlaps c ≡ depth overlaps d → Under n (parent overlaps) c x →
+      Under n (parent overlaps) d y → Before overlaps x y
   before-subtrees c d x y h e p q =
       record {
         no-deeper = λ k s.
@@ -65,13 +66,15 @@ module _ {n : ℕ} {overlaps : ℕ → ℕ → Bool} (ok : IntervalOrder n overl
       }
 
   -- So the lists of two children, and then the window itself, follow one another in that order.
-  between-children : (v c d x y : ℕ) → List·Memᴰ c (children n (parent overlaps) v) → List·Memᴰ d (children n (parent overlaps) v) → c < d → List·Memᴰ x (postOrder n (parent overlaps) c) → List·Memᴰ y (postOrder n (parent overlaps) d) → Before overlaps x y
+  between-children : (v c d x y : ℕ) → List·Memᴰ c (children n (parent overlaps) v) → List·Memᴰ d (children n (parent overlaps) v) → c < d →
+      List·Memᴰ x (postOrder n (parent overlaps) c) → List·Memᴰ y (postOrder n (parent overlaps) d) → Before overlaps x y
   between-children v c d x y p q l a b =
       let i = children-sound n (tree overlaps) v c p in
       let j = children-sound n (tree overlaps) v d q in
       before-subtrees c d x y l (child-depth n (tree overlaps) v c i ∙ sym (child-depth n (tree overlaps) v d j)) (postOrder-sound n (tree overlaps) c x (i .window) a) (postOrder-sound n (tree overlaps) d y (j .window) b)
 
-  children-first : (v x y : ℕ) → List·Memᴰ x (flatMap (postOrder n (parent overlaps)) (children n (parent overlaps) v)) → List·Memᴰ y (v ∷ []) → Before overlaps x y
+  children-first : (v x y : ℕ) → List·Memᴰ x (flatMap (postOrder n (parent overlaps)) (children n (parent overlaps) v)) →
+      List·Memᴰ y (v ∷ []) → Before overlaps x y
   children-first v x y m e =
       let s : y ≡ v = List·Memᴰ·eq-of-singleton e in
       let r = flatMap-sound (postOrder n (parent overlaps)) (children n (parent overlaps) v) x m in
@@ -83,7 +86,8 @@ module _ {n : ℕ} {overlaps : ℕ → ℕ → Bool} (ok : IntervalOrder n overl
   pub postOrder-pairwise : (v : ℕ) → v < n → Pairwise (Before overlaps) (postOrder n (parent overlaps) v)
   postOrder-pairwise v h = by-children n (tree overlaps) (λ v. Pairwise (Before overlaps) (postOrder n (parent overlaps) v)) step v h
     where
-      step : (v : ℕ) → v < n → ((c : ℕ) → Child n (parent overlaps) v c → Pairwise (Before overlaps) (postOrder n (parent overlaps) c)) → Pairwise (Before overlaps) (postOrder n (parent overlaps) v)
+      step : (v : ℕ) → v < n → ((c : ℕ) → Child n (parent overlaps) v c → Pairwise (Before overlaps) (postOrder n (parent overlaps) c)) →
+          Pairwise (Before overlaps) (postOrder n (parent overlaps) v)
       step v h below =
           rw (postOrder-children n (tree overlaps) v h)
           (pairwise-append (Before overlaps) (flatMap (postOrder n (parent overlaps)) (children n (parent overlaps) v)) (v ∷ [])
@@ -106,7 +110,8 @@ module _ {n : ℕ} {overlaps : ℕ → ℕ → Bool} (ok : IntervalOrder n overl
       (lt-or-ge (rank n overlaps x) (rank n overlaps y))
 
   -- For y deeper than x by k, x has the smaller rank exactly if it stands before the k-th ancestor of y.
-  pub rank-lt-iff : (x y k : ℕ) → x < n → y < n → root overlaps x ≡ root overlaps y → depth overlaps y ≡ depth overlaps x + k → (rank n overlaps x < rank n overlaps y) ↔ (x < ancestor overlaps k y)
+  pub rank-lt-iff : (x y k : ℕ) → x < n → y < n → root overlaps x ≡ root overlaps y → depth overlaps y ≡ depth overlaps x + k →
+      (rank n overlaps x < rank n overlaps y) ↔ (x < ancestor overlaps k y)
   rank-lt-iff x y k h g e d = (
     λ l. rank-before x y h g e l .no-deeper k d,
     λ l.
@@ -117,5 +122,6 @@ module _ {n : ℕ} {overlaps : ℕ → ℕ → Bool} (ok : IntervalOrder n overl
   )
 
   -- The same, of x no deeper than y in one component.
-  pub rank-compare : (x y : ℕ) → x < n → y < n → component overlaps x ≡ component overlaps y → depth overlaps x ≤ depth overlaps y → (rank n overlaps x < rank n overlaps y) ↔ (x < ancestor overlaps (depth overlaps y - depth overlaps x) y)
+  pub rank-compare : (x y : ℕ) → x < n → y < n → component overlaps x ≡ component overlaps y → depth overlaps x ≤ depth overlaps y →
+      (rank n overlaps x < rank n overlaps y) ↔ (x < ancestor overlaps (depth overlaps y - depth overlaps x) y)
   rank-compare x y h g e d = rank-lt-iff x y (depth overlaps y - depth overlaps x) h g (component-root (tree overlaps) x y e) (omega arith)

@@ -27,7 +27,8 @@ module _ {n : ℕ} {overlaps : ℕ → ℕ → Bool} (ok : IntervalOrder n overl
   numbers-small v h = omega (arith, component-le (tree overlaps) v, depth-le (tree overlaps) v, rank-lt n (tree overlaps) v h, lastRank-lt v h)
 
   -- What bounds the steps up from the later of two windows, and one more, bounds a least number of handovers.
-  pub least-le : (a b k m : ℕ) → a < n → b < n → LeastHandovers n overlaps a b k → (a < b → climb n overlaps a b < m) → (b < a → climb n overlaps b a < m) → k ≤ m
+  pub least-le : (a b k m : ℕ) → a < n → b < n → LeastHandovers n overlaps a b k → (a < b → climb n overlaps a b < m) →
+      (b < a → climb n overlaps b a < m) → k ≤ m
   least-le a b k m g l p s t =
       let e : root overlaps a ≡ root overlaps b = joined-root ok a b (least-handovers-joined n overlaps a b k p) in
       let c : k ≡ handovers (chainOf n overlaps a b) = least-is-chain ok a b k g l p in

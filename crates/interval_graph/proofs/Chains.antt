@@ -109,7 +109,8 @@ module _ (n : ℕ) (overlaps : ℕ → ℕ → Bool) where
       chain-cons x z (l ++ (y ∷ [])) (chain-head x (z ∷ l) c) (chain-overlap x z l c) (chain-snoc (z ∷ l) y (chain-tail x z l c) t h)
 
   -- A table of windows of which each overlaps the next is a chain.
-  pub chain-table : (f : ℕ → ℕ) (k : ℕ) → ((i : ℕ) → i ≤ k → f i < n) → ((i : ℕ) → i < k → overlaps (f i) (f (suc i)) ≡ true) → isChain n overlaps (table f (suc k)) ≡ true
+  pub chain-table : (f : ℕ → ℕ) (k : ℕ) → ((i : ℕ) → i ≤ k → f i < n) → ((i : ℕ) → i < k → overlaps (f i) (f (suc i)) ≡ true) →
+      isChain n overlaps (table f (suc k)) ≡ true
   unfolding table
   chain-table f zero b t = chain-alone (f zero) (b zero (omega arith))
   chain-table f (suc k) b t =
@@ -204,7 +205,8 @@ module _ (n : ℕ) (overlaps : ℕ → ℕ → Bool) (symmetric : (u v : ℕ) �
       ⊎-elim (λ s. turned a b s (λ e. omega arith) (λ e. omega arith) (λ e. omega arith))
       (λ s. turned b a s (λ e. omega arith) (λ e. omega arith) (λ e. omega arith)) (joins-cases n overlaps a b l t)
     where
-      turned : (x y : ℕ) → leads n overlaps x y l ≡ true → (x ≡ max a b → y ≡ min a b) → ((x ≡ max a b → ⊥) → y ≡ max a b) → ((x ≡ max a b → ⊥) → x ≡ min a b) → leads n overlaps (max a b) (min a b) (cond (eqb (firstEntry l) (max a b)) l (reverse l)) ≡ true
+      turned : (x y : ℕ) → leads n overlaps x y l ≡ true → (x ≡ max a b → y ≡ min a b) → ((x ≡ max a b → ⊥) → y ≡ max a b) →
+          ((x ≡ max a b → ⊥) → x ≡ min a b) → leads n overlaps (max a b) (min a b) (cond (eqb (firstEntry l) (max a b)) l (reverse l)) ≡ true
       turned x y s f g h =
           let first : firstEntry l ≡ x = leads-first n overlaps x y l s in
           cond-cases (λ m. leads n overlaps (max a b) (min a b) m ≡ true) (eqb (firstEntry l) (max a b))

@@ -67,7 +67,8 @@ module _ {n : ℕ} {overlaps : ℕ → ℕ → Bool} (ok : IntervalOrder n overl
       omega (arith, ancestor-parent (tree overlaps) i w, ancestor-le-chain l y (parent overlaps w) i (chain-tail n overlaps x y l c) p (omega arith))
 
   -- And one step less than its handovers leads to a position at most the last of its last entry.
-  pub chain-climbs : (l : List ℕ) (x y w u : ℕ) → isChain n overlaps (x ∷ (y ∷ l)) ≡ true → lastEntry (x ∷ (y ∷ l)) ≡ u → w ≤ x → ancestor overlaps (length l) w ≤ last n overlaps u
+  pub chain-climbs : (l : List ℕ) (x y w u : ℕ) → isChain n overlaps (x ∷ (y ∷ l)) ≡ true → lastEntry (x ∷ (y ∷ l)) ≡ u → w ≤ x →
+      ancestor overlaps (length l) w ≤ last n overlaps u
   unfolding lastEntry
   chain-climbs [] x y w u c e h =
       let t : overlaps u x ≡ true = ap (λ z. overlaps z x) (sym e) ∙ (ok .symmetric y x ∙ chain-overlap n overlaps x y [] c) in

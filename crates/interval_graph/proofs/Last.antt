@@ -13,7 +13,8 @@ use Rattle.sequences.proofs.Search.{greatest-ge, greatest-cases}
 use Rattle.interval_graph.specs.{Order.IntervalOrder, Tree.last}
 
 -- Either the last of u overlaps u and lies behind it, below n, or it is u.
-pub last-cases : (n : ℕ) (overlaps : ℕ → ℕ → Bool) (u : ℕ) → ((u < last n overlaps u) × (last n overlaps u < n) × (overlaps u (last n overlaps u) ≡ true)) ⊎ (last n overlaps u ≡ u)
+pub last-cases : (n : ℕ) (overlaps : ℕ → ℕ → Bool) (u : ℕ) →
+    ((u < last n overlaps u) × (last n overlaps u < n) × (overlaps u (last n overlaps u) ≡ true)) ⊎ (last n overlaps u ≡ u)
 unfolding last
 last-cases n overlaps u =
     let z = greatest (λ w. ltb u w && overlaps u w) n u in

@@ -33,7 +33,8 @@ module _ {n : ℕ} {overlaps : ℕ → ℕ → Bool} (ok : IntervalOrder n overl
   level-root u v D i p = root-of-ancestor (tree overlaps) i v ∙ sym (p .one-root)
 
   -- An ancestor of v that is deeper than the last of u stands behind it.
-  level-behind : (u v D i k : ℕ) → Pair n overlaps u v D → D ≡ i + k → depth overlaps (last n overlaps u) < depth overlaps u + k → last n overlaps u < ancestor overlaps i v
+  level-behind : (u v D i k : ℕ) → Pair n overlaps u v D → D ≡ i + k → depth overlaps (last n overlaps u) < depth overlaps u + k →
+      last n overlaps u < ancestor overlaps i v
   level-behind u v D i k p e h =
       shallower-earlier ok (last n overlaps u) (ancestor overlaps i v) (last-below ok u (omega (arith, p .order, p .window)))
       (last-root ok u (omega (arith, p .order, p .window)) ∙ sym (level-root u v D i p)) (omega (arith, level-depth u v D i k p e))
@@ -49,7 +50,8 @@ module _ {n : ℕ} {overlaps : ℕ → ℕ → Bool} (ok : IntervalOrder n overl
       (λ l. absurd (omega (arith, parent-least ok x u l, ancestor-suc (tree overlaps) D v))) (lt-or-ge (last n overlaps u) x)
 
   -- Where u stands before w, and w is behind the last of u, one climbs D + 1 steps.
-  pub climb-past-level : (u v D : ℕ) → Pair n overlaps u v D → u < ancestor overlaps D v → last n overlaps u < ancestor overlaps D v → climb n overlaps u v ≡ suc D
+  pub climb-past-level : (u v D : ℕ) → Pair n overlaps u v D → u < ancestor overlaps D v → last n overlaps u < ancestor overlaps D v →
+      climb n overlaps u v ≡ suc D
   climb-past-level u v D p h g =
       let w = ancestor overlaps D v in
       let above : parent overlaps w ≤ u = parent-before u v D p h in
@@ -70,7 +72,8 @@ module _ {n : ℕ} {overlaps : ℕ → ℕ → Bool} (ok : IntervalOrder n overl
       omega (arith, climb-le n overlaps u v (suc D) g, climb-gt n overlaps u v D (climb-le-position ok u v (p .one-root)) (level-behind u v (suc (suc D)) D 2 p (omega arith) (omega (arith, last-depth-le ok u (omega (arith, p .order, p .window))))))
 
   -- Where w is not behind u, and the ancestor below w is behind the last of u, one climbs to w.
-  pub climb-to-level : (u v D : ℕ) → Pair n overlaps u v (suc D) → ancestor overlaps (suc D) v ≤ u → last n overlaps u < ancestor overlaps D v → climb n overlaps u v ≡ suc D
+  pub climb-to-level : (u v D : ℕ) → Pair n overlaps u v (suc D) → ancestor overlaps (suc D) v ≤ u →
+      last n overlaps u < ancestor overlaps D v → climb n overlaps u v ≡ suc D
   climb-to-level u v D p h g =
       omega (arith, climb-gt n overlaps u v D (climb-le-position ok u v (p .one-root)) g, climb-le n overlaps u v (suc D) (omega (arith, last-ge ok u)))
 
@@ -103,7 +106,8 @@ module _ {n : ℕ} {overlaps : ℕ → ℕ → Bool} (ok : IntervalOrder n overl
 
   -- Of windows z and v in one component, v deeper by k, v has no greater rank exactly if its k-th ancestor is not
   -- behind z.
-  rank-leb : (z v k : ℕ) → z < n → v < n → root overlaps z ≡ root overlaps v → depth overlaps v ≡ depth overlaps z + k → leb (rank n overlaps v) (rank n overlaps z) ≡ leb (ancestor overlaps k v) z
+  rank-leb : (z v k : ℕ) → z < n → v < n → root overlaps z ≡ root overlaps v → depth overlaps v ≡ depth overlaps z + k →
+      leb (rank n overlaps v) (rank n overlaps z) ≡ leb (ancestor overlaps k v) z
   rank-leb z v k h g e d =
       let less = rank-lt-iff ok z v k h g e d in
       ⊎-elim (λ l. lt-leb (rank n overlaps v) (rank n overlaps z) (less .1 l) ∙ sym (lt-leb (ancestor overlaps k v) z l))
@@ -122,7 +126,8 @@ module _ {n : ℕ} {overlaps : ℕ → ℕ → Bool} (ok : IntervalOrder n overl
       (λ e. or-right s t (lt-ltb (rank n overlaps z) (rank n overlaps u) (last-rank-deeper u h e))
       ∙ sym (le-leb (ancestor overlaps D v) z (omega (arith, level-before u v D p h e)))) (last-level u h)
     where
-      level-before : (u v D : ℕ) → Pair n overlaps u v D → u < n → depth overlaps (last n overlaps u) ≡ suc (depth overlaps u) → ancestor overlaps D v < last n overlaps u
+      level-before : (u v D : ℕ) → Pair n overlaps u v D → u < n → depth overlaps (last n overlaps u) ≡ suc (depth overlaps u) →
+          ancestor overlaps D v < last n overlaps u
       level-before u v D p h e =
           shallower-earlier ok (ancestor overlaps D v) (last n overlaps u) (ancestor-below (tree overlaps) D v (p .window))
           (level-root u v D D p ∙ sym (last-root ok u h)) (omega (arith, level-depth u v D D 0 p (omega arith)))

@@ -117,7 +117,8 @@ module _ (n : ℕ) {parent : ℕ → ℕ} (forest : Forest parent) where
   pub postOrder-sound : (v x : ℕ) → v < n → List·Memᴰ x (postOrder n parent v) → Under n parent v x
   postOrder-sound v x h = by-children (λ v. List·Memᴰ x (postOrder n parent v) → Under n parent v x) step v h
     where
-      step : (v : ℕ) → v < n → ((c : ℕ) → Child n parent v c → List·Memᴰ x (postOrder n parent c) → Under n parent c x) → List·Memᴰ x (postOrder n parent v) → Under n parent v x
+      step : (v : ℕ) → v < n → ((c : ℕ) → Child n parent v c → List·Memᴰ x (postOrder n parent c) → Under n parent c x) →
+          List·Memᴰ x (postOrder n parent v) → Under n parent v x
       step v h below m =
           ⊎-elim (λ g. let r = flatMap-sound (postOrder n parent) (children n parent v) x g in
           let k = children-sound v (r .0) (r .1) in

@@ -21,7 +21,8 @@ module _ (n : ℕ) {parent : ℕ → ℕ} (forest : Forest parent) where
   pub postOrder-distinct : (v : ℕ) → v < n → Pairwise (λ x y. x ≡ y → ⊥) (postOrder n parent v)
   postOrder-distinct v h = by-children n forest (λ v. Pairwise (λ x y. x ≡ y → ⊥) (postOrder n parent v)) step v h
     where
-      step : (v : ℕ) → v < n → ((c : ℕ) → Child n parent v c → Pairwise (λ x y. x ≡ y → ⊥) (postOrder n parent c)) → Pairwise (λ x y. x ≡ y → ⊥) (postOrder n parent v)
+      step : (v : ℕ) → v < n → ((c : ℕ) → Child n parent v c → Pairwise (λ x y. x ≡ y → ⊥) (postOrder n parent c)) →
+          Pairwise (λ x y. x ≡ y → ⊥) (postOrder n parent v)
       step v h below =
           rw (postOrder-children n forest v h)
           (pairwise-append (λ x y. x ≡ y → ⊥) (flatMap (postOrder n parent) (children n parent v)) (v ∷ [])
@@ -29,7 +30,8 @@ module _ (n : ℕ) {parent : ℕ → ℕ} (forest : Forest parent) where
           (λ c m. below c (children-sound n forest v c m)) siblings) (λ y m. absurd (List·Memᴰ·not-nil m), tt)
           (λ x y m g e. not-below n forest v (rw (e ∙ List·Memᴰ·eq-of-singleton g) at m)))
         where
-          siblings : (c d x y : ℕ) → List·Memᴰ c (children n parent v) → List·Memᴰ d (children n parent v) → c < d → List·Memᴰ x (postOrder n parent c) → List·Memᴰ y (postOrder n parent d) → x ≡ y → ⊥
+          siblings : (c d x y : ℕ) → List·Memᴰ c (children n parent v) → List·Memᴰ d (children n parent v) → c < d →
+              List·Memᴰ x (postOrder n parent c) → List·Memᴰ y (postOrder n parent d) → x ≡ y → ⊥
           siblings c d x y p q l a b e =
               let i = children-sound n forest v c p in
               let j = children-sound n forest v d q in

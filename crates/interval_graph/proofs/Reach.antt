@@ -41,7 +41,8 @@ module _ {n : ℕ} {overlaps : ℕ → ℕ → Bool} (ok : IntervalOrder n overl
       omega (arith, depth-monotone ok w z (lastInComponent-greatest n overlaps v w g e) (lastInComponent-window n overlaps v h) (component-root (tree overlaps) w z (e ∙ sym (lastInComponent-component n overlaps v))))
 
   -- No two windows of v's component are more handovers apart than its reach.
-  pub reach-bound : (v a b k : ℕ) → v < n → a < n → b < n → component overlaps a ≡ component overlaps v → component overlaps b ≡ component overlaps v → LeastHandovers n overlaps a b k → k ≤ reach n overlaps v
+  pub reach-bound : (v a b k : ℕ) → v < n → a < n → b < n → component overlaps a ≡ component overlaps v →
+      component overlaps b ≡ component overlaps v → LeastHandovers n overlaps a b k → k ≤ reach n overlaps v
   reach-bound v a b k h g l p q c =
       let e : root overlaps a ≡ root overlaps b = component-root (tree overlaps) a b (p ∙ sym q) in
       least-le ok a b k (reach n overlaps v) g l c (λ s. omega (arith, climb-le-depth ok a b e, depth-lt-reach v b h l q))

@@ -76,13 +76,15 @@ module _ {n : ℕ} {overlaps : ℕ → ℕ → Bool} (ok : IntervalOrder n overl
       (⊎-elim (λ b. absurd (omega (arith, less .1 b, ltb-false (rank n overlaps u) (rank n overlaps v) t))) (λ b. b) (lt-or-ge u w))))
 
   -- For u before v in one component the rule counts one more than the steps up from v.
-  pub between-climb : (u v p q : ℕ) → u < v → v < n → root overlaps u ≡ root overlaps v → between (numbersOf n overlaps p u) (numbersOf n overlaps q v) ≡ suc (climb n overlaps u v)
+  pub between-climb : (u v p q : ℕ) → u < v → v < n → root overlaps u ≡ root overlaps v →
+      between (numbersOf n overlaps p u) (numbersOf n overlaps q v) ≡ suc (climb n overlaps u v)
   between-climb u v p q h g e =
       between-pair u v p q (depth overlaps v - depth overlaps u)
       (record { order = h; window = g; one-root = e; levels = omega (arith, depth-monotone ok u v (omega arith) g e) })
 
   -- The numbers tell which window is the earlier: it comes first.
-  pub first-earlier : (u v p q : ℕ) → u < v → v < n → root overlaps u ≡ root overlaps v → comesFirst (numbersOf n overlaps p u) (numbersOf n overlaps q v) ≡ true
+  pub first-earlier : (u v p q : ℕ) → u < v → v < n → root overlaps u ≡ root overlaps v →
+      comesFirst (numbersOf n overlaps p u) (numbersOf n overlaps q v) ≡ true
   unfolding comesFirst numbersOf
   first-earlier u v p q h g e =
       let s = ltb (depth overlaps u) (depth overlaps v) in
@@ -95,7 +97,8 @@ module _ {n : ℕ} {overlaps : ℕ → ℕ → Bool} (ok : IntervalOrder n overl
       (lt-or-ge (depth overlaps u) (depth overlaps v))
 
   -- The later window does not come first.
-  pub first-not-later : (u v p q : ℕ) → u < v → v < n → root overlaps u ≡ root overlaps v → comesFirst (numbersOf n overlaps p v) (numbersOf n overlaps q u) ≡ false
+  pub first-not-later : (u v p q : ℕ) → u < v → v < n → root overlaps u ≡ root overlaps v →
+      comesFirst (numbersOf n overlaps p v) (numbersOf n overlaps q u) ≡ false
   unfolding comesFirst numbersOf
   first-not-later u v p q h g e =
       let s = ltb (depth overlaps v) (depth overlaps u) in
@@ -141,7 +144,8 @@ module _ {n : ℕ} {overlaps : ℕ → ℕ → Bool} (ok : IntervalOrder n overl
       rw (t, s)
 
   -- For windows of one component the outcome is the count of the chain between them.
-  pub outcome-chain : (a b p : ℕ) → a < n → b < n → root overlaps a ≡ root overlaps b → outcome (numbersOf n overlaps p a) (numbersOf n overlaps p b) ≡ apart (handovers (chainOf n overlaps a b))
+  pub outcome-chain : (a b p : ℕ) → a < n → b < n → root overlaps a ≡ root overlaps b →
+      outcome (numbersOf n overlaps p a) (numbersOf n overlaps p b) ≡ apart (handovers (chainOf n overlaps a b))
   outcome-chain a b p g l e =
       ⊎-elim (λ h. outcome-two a b p g l (λ s. omega arith) e
       ∙ rw (first-earlier a b p p h l e) (ap apart (between-climb a b p p h l e ∙ sym (chain-handovers a b h l e)))) (λ h. ⊎-elim
@@ -152,7 +156,8 @@ module _ {n : ℕ} {overlaps : ℕ → ℕ → Bool} (ok : IntervalOrder n overl
       (lt-or-ge a b)
 
   -- For windows of two components it is no chain.
-  pub outcome-none : (a b p : ℕ) → a < n → b < n → (root overlaps a ≡ root overlaps b → ⊥) → outcome (numbersOf n overlaps p a) (numbersOf n overlaps p b) ≡ no-chain
+  pub outcome-none : (a b p : ℕ) → a < n → b < n → (root overlaps a ≡ root overlaps b → ⊥) →
+      outcome (numbersOf n overlaps p a) (numbersOf n overlaps p b) ≡ no-chain
   unfolding outcome numbersOf
   outcome-none a b p g l d =
       let t : equal (numbersOf n overlaps p a) (numbersOf n overlaps p b) ≡ false = not-equal a b p g l (λ s. d (ap (root overlaps) s)) in
@@ -160,14 +165,16 @@ module _ {n : ℕ} {overlaps : ℕ → ℕ → Bool} (ok : IntervalOrder n overl
       rw (t, s)
 
   -- The outcome is the same in either order of naming.
-  pub outcome-symmetric : (a b p : ℕ) → a < n → b < n → outcome (numbersOf n overlaps p a) (numbersOf n overlaps p b) ≡ outcome (numbersOf n overlaps p b) (numbersOf n overlaps p a)
+  pub outcome-symmetric : (a b p : ℕ) → a < n → b < n →
+      outcome (numbersOf n overlaps p a) (numbersOf n overlaps p b) ≡ outcome (numbersOf n overlaps p b) (numbersOf n overlaps p a)
   outcome-symmetric a b p g l =
       ⊎-elim (λ e. outcome-chain a b p g l e
       ∙ (ap (λ c. apart (handovers c)) (chain-symmetric n overlaps a b) ∙ sym (outcome-chain b a p l g (sym e))))
       (λ d. outcome-none a b p g l d ∙ sym (outcome-none b a p l g (λ e. d (sym e)))) (equal-or-not (root overlaps a) (root overlaps b))
 
   -- The outcome is a count exactly if that is the least number of handovers.
-  pub outcome-apart : (a b p k : ℕ) → a < n → b < n → (outcome (numbersOf n overlaps p a) (numbersOf n overlaps p b) ≡ apart k) ↔ LeastHandovers n overlaps a b k
+  pub outcome-apart : (a b p k : ℕ) → a < n → b < n →
+      (outcome (numbersOf n overlaps p a) (numbersOf n overlaps p b) ≡ apart k) ↔ LeastHandovers n overlaps a b k
   outcome-apart a b p k g l = (to, from)
     where
       to : outcome (numbersOf n overlaps p a) (numbersOf n overlaps p b) ≡ apart k → LeastHandovers n overlaps a b k

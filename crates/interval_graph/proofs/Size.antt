@@ -84,7 +84,8 @@ module _ (n : ℕ) {parent : ℕ → ℕ} (forest : Forest parent) where
       let i : p .steps ≡ q .steps = omega (arith, p .deeper, q .deeper) in
       sym (p .up) ∙ (ap (λ k. ancestor parent k y) i ∙ q .up)
 
-  not-earlier : (v c y : ℕ) → Child n parent v c → List·Memᴰ y (postOrder n parent c) → List·Memᴰ y (flatMap (postOrder n parent) (earlierSiblings n parent c)) → ⊥
+  not-earlier : (v c y : ℕ) → Child n parent v c → List·Memᴰ y (postOrder n parent c) →
+      List·Memᴰ y (flatMap (postOrder n parent) (earlierSiblings n parent c)) → ⊥
   not-earlier v c y k m g =
       let r = flatMap-sound (postOrder n parent) (earlierSiblings n parent c) y g in
       let q = earlier-sound v c (r .0) k (r .1) in
@@ -92,7 +93,8 @@ module _ (n : ℕ) {parent : ℕ → ℕ} (forest : Forest parent) where
       omega (arith, q .0)
 
   -- In the list of v the list of a child stands behind those of its earlier siblings.
-  index-in-child : (v c y : ℕ) → v < n → Child n parent v c → List·Memᴰ y (postOrder n parent c) → indexOf y (postOrder n parent v) ≡ total (size n parent) (earlierSiblings n parent c) + indexOf y (postOrder n parent c)
+  index-in-child : (v c y : ℕ) → v < n → Child n parent v c → List·Memᴰ y (postOrder n parent c) →
+      indexOf y (postOrder n parent v) ≡ total (size n parent) (earlierSiblings n parent c) + indexOf y (postOrder n parent c)
   unfolding size flatMap
   index-in-child v c y h k m =
       let P = postOrder n parent in
@@ -117,7 +119,8 @@ module _ (n : ℕ) {parent : ℕ → ℕ} (forest : Forest parent) where
       omega (arith, ap (indexOf v) whole, index-append-right v below (v ∷ []) (index-absent v below (not-below v)), index-here v v [] refl, ap length whole, length-append below (v ∷ []))
 
   -- Where something of v's list stands in the root's list.
-  pub rank-in-list : (d v y : ℕ) → depth parent v ≡ d → v < n → List·Memᴰ y (postOrder n parent v) → rank n parent y ≡ start n parent v + indexOf y (postOrder n parent v)
+  pub rank-in-list : (d v y : ℕ) → depth parent v ≡ d → v < n → List·Memᴰ y (postOrder n parent v) →
+      rank n parent y ≡ start n parent v + indexOf y (postOrder n parent v)
   unfolding rank
   rank-in-list zero v y e h m =
       let top : root parent v ≡ v = sym (ancestor-past forest v 0 (omega arith)) ∙ ancestor-zero forest v in

@@ -119,7 +119,8 @@ module _ {n : ℕ} {overlaps : ℕ → ℕ → Bool} (ok : IntervalOrder n overl
       on-the-way m t i b =
           omega (arith, walk-entry n overlaps u v i (omega arith), ancestor-le-entry u v m t i (omega (arith, climb-lt-handovers u v m h t)))
 
-      at-the-end : (m : List ℕ) → leads n overlaps v u m ≡ true → handovers m ≤ handovers (walk n overlaps u v) → (i : ℕ) → i ≤ handovers (walk n overlaps u v) → suc (climb n overlaps u v) ≤ i → getD (walk n overlaps u v) i 0 ≤ getD m i 0
+      at-the-end : (m : List ℕ) → leads n overlaps v u m ≡ true → handovers m ≤ handovers (walk n overlaps u v) → (i : ℕ) →
+          i ≤ handovers (walk n overlaps u v) → suc (climb n overlaps u v) ≤ i → getD (walk n overlaps u v) i 0 ≤ getD m i 0
       at-the-end m t f i b e =
           let w = walk n overlaps u v in
           let p : i ≡ handovers w = omega (arith, walk-handovers n overlaps u v) in

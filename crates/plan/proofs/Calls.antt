@@ -16,14 +16,16 @@ afterValidation (Accepted plan windows) refused next = next
 afterValidation (Refused refusal) refused next = refused refusal
 
 -- The questions of a plan, and then others: the validation's answer, and then theirs.
-pub plan-first : {A : Type 0} (file : List ℕ) (more : List Question) (refused : Refusal → A) (accepted : A) → firstNo (planQuestions file ++ more) refused accepted ≡ afterValidation (validateAnswerOf file) refused (firstNo more refused accepted)
+pub plan-first : {A : Type 0} (file : List ℕ) (more : List Question) (refused : Refusal → A) (accepted : A) →
+    firstNo (planQuestions file ++ more) refused accepted ≡ afterValidation (validateAnswerOf file) refused (firstNo more refused accepted)
 unfolding validateAnswerOf
 plan-first file more refused accepted =
     first-append (planQuestions file) more refused accepted
     ∙ sym (first-map (λ v. afterValidation v refused (firstNo more refused accepted)) (planQuestions file) Refused (Accepted (planNumber file) (windowCount file)))
 
 -- A validation that is accepted is so with the file's own numbers.
-pub accepted-numbers : (file : List ℕ) (plan windows : ℕ) → Accepted plan windows ≡ validateAnswerOf file → (plan ≡ planNumber file) × (windows ≡ windowCount file)
+pub accepted-numbers : (file : List ℕ) (plan windows : ℕ) → Accepted plan windows ≡ validateAnswerOf file →
+    (plan ≡ planNumber file) × (windows ≡ windowCount file)
 unfolding validateAnswerOf
 accepted-numbers file plan windows e =
     ⊎-elim (λ same. (cc, cc)) (λ refusal. let z : _≡_ {A = ℕ} 0 1 = cc in absurd (omega arith))
@@ -40,7 +42,8 @@ module _ {A : Type 0} (file : List ℕ) (more : List Question) (refused : Refusa
   pub plan-refused : (refusal : Refusal) → answer ≡ Refused refusal → refused refusal ≡ firstNo (planQuestions file ++ more) refused accepted
   plan-refused refusal e = sym (plan-first file more refused accepted ∙ rw (← validated, e))
 
-  pub plan-accepted : (plan windows : ℕ) → answer ≡ Accepted plan windows → firstNo more refused accepted ≡ firstNo (planQuestions file ++ more) refused accepted
+  pub plan-accepted : (plan windows : ℕ) → answer ≡ Accepted plan windows →
+      firstNo more refused accepted ≡ firstNo (planQuestions file ++ more) refused accepted
   plan-accepted plan windows e = sym (plan-first file more refused accepted ∙ rw (← validated, e))
 
 -- The same where one question more is asked.
@@ -53,7 +56,8 @@ module _ {A : Type 0} (file : List ℕ) (q : Question) (refused : Refusal → A)
   one-more-yes t = sym (first-yes [] refused accepted q t) ∙ plan-accepted file (q ∷ []) refused accepted answer validated plan windows e
 
 -- The questions to a call's second file are answered by its validation, with the second input at fault.
-pub plan-second : {A : Type 0} (file : List ℕ) (refused : Refusal → A) (accepted : A) → firstNo (from 1 (planQuestions file)) refused accepted ≡ afterValidation (validateAnswerOf file) (λ r. refused (refusalFrom 1 r)) accepted
+pub plan-second : {A : Type 0} (file : List ℕ) (refused : Refusal → A) (accepted : A) →
+    firstNo (from 1 (planQuestions file)) refused accepted ≡ afterValidation (validateAnswerOf file) (λ r. refused (refusalFrom 1 r)) accepted
 unfolding validateAnswerOf
 plan-second file refused accepted =
     first-from 1 (planQuestions file) refused accepted

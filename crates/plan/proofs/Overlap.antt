@@ -52,7 +52,8 @@ unfolding overlaps
 minimum-overlaps file u v other h = rw (ne-eqb u v other) (le-leb _ _ h)
 
 -- Two windows overlap exactly if they are two and some minute is covered by both.
-pub overlaps-shares : (file : List ℕ) (u v : ℕ) → (overlaps file u v ≡ true) ↔ ((u ≢ v) × ((m : ℕ) × (covers (windowAt file u) m ≡ true) × (covers (windowAt file v) m ≡ true)))
+pub overlaps-shares : (file : List ℕ) (u v : ℕ) →
+    (overlaps file u v ≡ true) ↔ ((u ≢ v) × ((m : ℕ) × (covers (windowAt file u) m ≡ true) × (covers (windowAt file v) m ≡ true)))
 overlaps-shares file u v = (shares, meet)
   where
     a : Window
@@ -79,7 +80,8 @@ overlaps-shares file u v = (shares, meet)
         (omega (arith, shared-minutes a b, covers-minute a (h .1 .0) (h .1 .1), covers-minute b (h .1 .0) (h .1 .2)))
 
 -- In an accepted plan, for u before v: v begins before the bound of u.
-pub overlaps-bound : (file : List ℕ) → AcceptedPlan file → (u v : ℕ) → u < v → v < windowCount file → overlaps file u v ≡ overlapInOrder (windowAt file u) (windowAt file v)
+pub overlaps-bound : (file : List ℕ) → AcceptedPlan file → (u v : ℕ) → u < v → v < windowCount file →
+    overlaps file u v ≡ overlapInOrder (windowAt file u) (windowAt file v)
 unfolding overlapInOrder boundOf endOf
 overlaps-bound file ok u v before within =
     iff-equal (overlaps file u v) (ltb (b .offset) (boundOf a))
@@ -100,7 +102,8 @@ overlaps-bound file ok u v before within =
     sorted = offsets-sorted file s u v (omega arith) within
 
 -- "For u before v this means: end of u is greater than offset of v", in an accepted plan.
-pub overlaps-end : (file : List ℕ) → AcceptedPlan file → (u v : ℕ) → u < v → v < windowCount file → overlaps file u v ≡ ltb (windowAt file v .offset) (endOf (windowAt file u))
+pub overlaps-end : (file : List ℕ) → AcceptedPlan file → (u v : ℕ) → u < v → v < windowCount file →
+    overlaps file u v ≡ ltb (windowAt file v .offset) (endOf (windowAt file u))
 unfolding overlapInOrder boundOf
 overlaps-end file ok u v before within =
     let e : boundOf (windowAt file u) ≡ endOf (windowAt file u) = omega arith in

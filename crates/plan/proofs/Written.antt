@@ -34,7 +34,8 @@ windowOf-windowBytes w = rw (whole (w .offset), whole (w .length))
 
 -- A window's two numbers, written one behind the other.
 module _ (w : Window) (l : List ℕ) (at : ℕ) where
-  pub window-placed : (a b : List ℕ) → at + windowLength ≤ length l → a ≡ placed l at (bytes32 (w .offset)) → b ≡ placed a (at + 4) (bytes32 (w .length)) → b ≡ placed l at (windowBytes w)
+  pub window-placed : (a b : List ℕ) → at + windowLength ≤ length l → a ≡ placed l at (bytes32 (w .offset)) →
+      b ≡ placed a (at + 4) (bytes32 (w .length)) → b ≡ placed l at (windowBytes w)
   unfolding windowBytes bytes32
   window-placed a b room first second = rw (second, first) (placed-behind l at (bytes32 (w .offset)) (bytes32 (w .length)) (omega arith))
 
@@ -85,7 +86,8 @@ window-more file v w later here =
     rw (next, here)
 
 -- The questions of a file's windows from v on, where they are those of a list.
-windows-asked : (file : List ℕ) (v : ℕ) (windows : List Window) (d : Window) → ((i : ℕ) → i < length windows → windowAt file (v + i) ≡ getD windows i d) → allYes (each (windowsAsked file) v (length windows)) ≡ windowsPass (offsetBefore file v) windows
+windows-asked : (file : List ℕ) (v : ℕ) (windows : List Window) (d : Window) → ((i : ℕ) → i < length windows → windowAt file (v + i) ≡ getD windows i d) →
+    allYes (each (windowsAsked file) v (length windows)) ≡ windowsPass (offsetBefore file v) windows
 unfolding windowsPass each allYes
 windows-asked file v [] d reads = refl
 windows-asked file v (w ∷ later) d reads =
@@ -103,7 +105,8 @@ file-asked file n counted long =
     (and-true-right (leb n greatestCount) true refl)
 
 -- The file is that of an accepted plan exactly if it has few enough windows and they pass.
-pub accepted-fileOf : (plan : ℕ) (windows : List Window) (d : Window) → allYes (planQuestions (fileOf plan windows)) ≡ (leb (length windows) greatestCount && windowsPass 0 windows)
+pub accepted-fileOf : (plan : ℕ) (windows : List Window) (d : Window) →
+    allYes (planQuestions (fileOf plan windows)) ≡ (leb (length windows) greatestCount && windowsPass 0 windows)
 unfolding planQuestions offsetBefore
 accepted-fileOf plan windows d =
     let file = fileOf plan windows in

@@ -23,7 +23,8 @@ module _ {A : Type 0} where
   written-none before = record { written = refl; long = refl }
 
   -- One entry more.
-  pub written-more : (before now new : List A) (at : ℕ) (x : A) → at ≡ length new → at < length before → Written before now new → Written before (set now at x) (new ++ (x ∷ []))
+  pub written-more : (before now new : List A) (at : ℕ) (x : A) → at ≡ length new → at < length before → Written before now new →
+      Written before (set now at x) (new ++ (x ∷ []))
   unfolding overwritten
   written-more before now new at x e room s =
       record { written = rw (s .written, ← e) stored; long = length-set now at x ∙ s .long }

@@ -29,7 +29,8 @@ module _ (R : ℕ → ℕ → Type 0) where
       (λ y h. ⊎-elim (λ g. p .0 y g) (λ g. c x y (List·Memᴰ·head refl) g) (List·Memᴰ·append-cases l h), pairwise-append l m (p .1) q (λ a b g h. c a b (List·Memᴰ·tail g) h))
 
   -- The lists of pairwise elements, each pairwise, one after another.
-  pub pairwise-flatMap : (S : ℕ → ℕ → Type 0) (f : ℕ → List ℕ) (l : List ℕ) → Pairwise S l → ((c : ℕ) → List·Memᴰ c l → Pairwise R (f c)) → ((c d x y : ℕ) → List·Memᴰ c l → List·Memᴰ d l → S c d → List·Memᴰ x (f c) → List·Memᴰ y (f d) → R x y) → Pairwise R (flatMap f l)
+  pub pairwise-flatMap : (S : ℕ → ℕ → Type 0) (f : ℕ → List ℕ) (l : List ℕ) → Pairwise S l → ((c : ℕ) → List·Memᴰ c l → Pairwise R (f c)) →
+      ((c d x y : ℕ) → List·Memᴰ c l → List·Memᴰ d l → S c d → List·Memᴰ x (f c) → List·Memᴰ y (f d) → R x y) → Pairwise R (flatMap f l)
   unfolding flatMap
   pairwise-flatMap S f [] s p c = tt
   pairwise-flatMap S f (z ∷ l) s p c =

@@ -137,7 +137,8 @@ count-every p a (suc k) h =
     rw e (omega (arith, count-true p (a + k) (h (a + k) (omega arith) (omega arith)), count-every p a k (λ i l r. h i l (omega arith))))
 
 -- A test that passes from a up to, not including, b counts b - a numbers, wherever the count stops past b.
-pub count-range : (p : ℕ → Bool) (a b n : ℕ) → ((k : ℕ) → k < a → p k ≡ false) → ((k : ℕ) → a ≤ k → k < b → p k ≡ true) → ((k : ℕ) → b ≤ k → p k ≡ false) → b ≤ n → count p n ≡ b - a
+pub count-range : (p : ℕ → Bool) (a b n : ℕ) → ((k : ℕ) → k < a → p k ≡ false) → ((k : ℕ) → a ≤ k → k < b → p k ≡ true) →
+    ((k : ℕ) → b ≤ k → p k ≡ false) → b ≤ n → count p n ≡ b - a
 unfolding count
 count-range p a b n before within after le =
     let start : count p (0 + a) ≡ 0 = count-none p 0 a (λ i l r. before i (omega arith)) in
