@@ -43,8 +43,8 @@ module _ {n : ℕ} {overlaps : ℕ → ℕ → Bool} (ok : IntervalOrder n overl
       by-depth : (d : ℕ) → depth overlaps v ≡ d → climb n overlaps u v < v
       by-depth zero s = omega (arith, climb-le-depth ok u v e)
       by-depth (suc d) s =
-          let x = ancestor overlaps d v in
-          let top : parent overlaps x ≡ root overlaps u = sym (ancestor-suc (tree overlaps) d v) ∙ (ancestor-past (tree overlaps) v (suc d) (omega arith) ∙ sym e) in
+          let x = ancestor overlaps d v in let past = ancestor-past (tree overlaps) v (suc d) (omega arith) in
+          let top : parent overlaps x ≡ root overlaps u = sym (ancestor-suc (tree overlaps) d v) ∙ (past ∙ sym e) in
           let covers : x ≤ last n overlaps (root overlaps u) = rw top at (parent-last ok x (ancestor-below (tree overlaps) d v g)) in
           ⊎-elim (λ l. omega (arith, depth-le (tree overlaps) v))
           (λ l. let behind : last n overlaps u < x = climb-before n overlaps u v d (omega arith) in

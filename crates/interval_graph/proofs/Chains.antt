@@ -188,7 +188,7 @@ module _ (n : ℕ) (overlaps : ℕ → ℕ → Bool) (symmetric : (u v : ℕ) �
   chain-reverse [] c = c
   chain-reverse (x ∷ []) c = c
   chain-reverse (x ∷ (y ∷ l)) c =
-      let t : overlaps (lastEntry (reverse (y ∷ l))) x ≡ true = ap (λ z. overlaps z x) (last-reverse (y ∷ l)) ∙ (symmetric y x ∙ chain-overlap n overlaps x y l c) in
+      let t = ap (λ (z : ℕ). overlaps z x) (last-reverse (y ∷ l)) ∙ (symmetric y x ∙ chain-overlap n overlaps x y l c) in
       ap (isChain n overlaps) (reverse-cons x (y ∷ l))
       ∙ chain-snoc n overlaps (reverse (y ∷ l)) x (chain-reverse (y ∷ l) (chain-tail n overlaps x y l c)) t (chain-head n overlaps x (y ∷ l) c)
 

@@ -62,9 +62,9 @@ module _ {parent : ℕ → ℕ} (forest : Forest parent) where
   unfolding root depth
   root-is-root v =
       ⊎-elim (λ h. least-holds (λ i. isRoot parent (ancestor parent i v)) v h)
-      (λ h. let d : depth parent v ≡ v = omega (arith, depth-le v) in
-      let z : parent (ancestor parent (depth parent v) v) ≡ ancestor parent (depth parent v) v = omega (arith, ancestor-sum (depth parent v) v (omega arith), forest .parent-le (ancestor parent (depth parent v) v)) in
-      fixed-root _ z) (lt-or-ge (depth parent v) v)
+      (λ h. let d : depth parent v ≡ v = omega (arith, depth-le v) in let r = ancestor parent (depth parent v) v in
+      let z : parent r ≡ r = omega (arith, ancestor-sum (depth parent v) v (omega arith), forest .parent-le r) in fixed-root r z)
+      (lt-or-ge (depth parent v) v)
 
   -- The root is its own parent.
   pub root-parent : (v : ℕ) → parent (root parent v) ≡ root parent v
@@ -112,8 +112,9 @@ module _ {parent : ℕ → ℕ} (forest : Forest parent) where
   -- A window and its parent have one root.
   pub root-of-parent : (v : ℕ) → root parent (parent v) ≡ root parent v
   root-of-parent v =
-      let up : ancestor parent (depth parent v) (parent v) ≡ root parent v = ancestor-parent forest (depth parent v) v ∙ ancestor-past v (suc (depth parent v)) (omega arith) in
-      sym (root-unique (parent v) (depth parent v) (rw up (root-is-root v))) ∙ up
+      let d = depth parent v in
+      let up : ancestor parent d (parent v) ≡ root parent v = ancestor-parent forest d v ∙ ancestor-past v (suc d) (omega arith) in
+      sym (root-unique (parent v) d (rw up (root-is-root v))) ∙ up
 
   -- A window and its ancestors have one root.
   pub root-of-ancestor : (i v : ℕ) → root parent (ancestor parent i v) ≡ root parent v

@@ -35,8 +35,8 @@ module _ {n : ℕ} {overlaps : ℕ → ℕ → Bool} (ok : IntervalOrder n overl
   -- Level order: in one component a later window is at least as deep.
   pub depth-monotone : (u v : ℕ) → u ≤ v → v < n → root overlaps u ≡ root overlaps v → depth overlaps u ≤ depth overlaps v
   depth-monotone u v h g e =
-      let k = depth overlaps v in
-      let up : ancestor overlaps k u ≡ root overlaps u = omega (arith, root-le-ancestor (tree overlaps) u k, ancestor-monotone k u v h g, ancestor-past (tree overlaps) v k (omega arith)) in
+      let k = depth overlaps v in let past = ancestor-past (tree overlaps) v k (omega arith) in
+      let up : ancestor overlaps k u ≡ root overlaps u = omega (arith, root-le-ancestor (tree overlaps) u k, ancestor-monotone k u v h g, past) in
       depth-minimal (tree overlaps) u k (rw up (root-is-root (tree overlaps) u))
 
   -- In one component the less deep of two windows is the earlier.
@@ -61,7 +61,7 @@ module _ {n : ℕ} {overlaps : ℕ → ℕ → Bool} (ok : IntervalOrder n overl
   pub last-depth-le : (u : ℕ) → u < n → depth overlaps (last n overlaps u) ≤ suc (depth overlaps u)
   last-depth-le u g =
       let z = last n overlaps u in
-      let up : depth overlaps (parent overlaps z) ≤ depth overlaps u = depth-monotone (parent overlaps z) u (parent-least ok z u (omega arith)) g (root-of-parent (tree overlaps) z ∙ last-root u g) in
+      let up = depth-monotone (parent overlaps z) u (parent-least ok z u (omega arith)) g (root-of-parent (tree overlaps) z ∙ last-root u g) in
       ⊎-elim (λ h. omega (arith, depth-step (tree overlaps) z h))
       (λ h. omega (arith, fixed-depth (tree overlaps) z (omega (arith, parent-le overlaps z)))) (lt-or-ge (parent overlaps z) z)
 

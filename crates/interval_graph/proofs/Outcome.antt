@@ -19,7 +19,7 @@ module _ (u v : Numbers) where
   unfolding between
   between-rising-near rising near =
       rw (lt-ltb _ _ rising)
-      (⊎-elim (λ h. rw (le-leb (v .rank) (u .last) h)) (λ h. rw (or-right (leb (v .rank) (u .last)) (ltb (u .last) (u .rank)) (lt-ltb (u .last) (u .rank) h))) near)
+      (⊎-elim (λ h. rw (le-leb (v .rank) (u .last) h)) (λ h. rw (or-right (leb (v .rank) (u .last)) _ (lt-ltb (u .last) (u .rank) h))) near)
 
   -- "else D + 2"
   pub between-rising-far : u .rank < v .rank → u .last < v .rank → u .rank ≤ u .last → between u v ≡ v .depth - u .depth + 2

@@ -25,13 +25,14 @@ overlaps u v =
 
 -- What a computation of plan 12 opens: naming it on an `unfolding` line opens all that its own line names.
 unfoldable pub definitions : Unit {0}
-unfolding table overlaps offsets lengths last parent lastRank Forest.isRoot Forest.ancestor Forest.depth Forest.root Forest.component Forest.children Forest.postOrderTo Forest.postOrder Forest.rank least greatest count passing indexOf flatMap outcome equal comesFirst between numbersOf handovers isChain leads joins firstEntry lastEntry
+unfolding table overlaps offsets lengths last parent lastRank
+    Forest.isRoot Forest.ancestor Forest.depth Forest.root Forest.component Forest.children Forest.postOrderTo Forest.postOrder Forest.rank
+    least greatest count passing indexOf flatMap outcome equal comesFirst between numbersOf handovers isChain leads joins firstEntry lastEntry
 definitions = tt
 
 -- A line of the paper's listing after its position: parent, component, depth, rank, rank of the last.
 unfoldable pub row : (ℕ → ℕ → Bool) → ℕ → List ℕ
-row overlap v =
-    parent overlap v ∷ component overlap v ∷ depth overlap v ∷ rank 7 overlap v ∷ lastRank 7 overlap v ∷ []
+row overlap v = parent overlap v ∷ component overlap v ∷ depth overlap v ∷ rank 7 overlap v ∷ lastRank 7 overlap v ∷ []
 
 unfoldable pub listing : List (List ℕ)
 listing =
@@ -84,8 +85,8 @@ plan-12-handovers = refl
 
 -- The chains that are written are the paper's; between windows of two components nothing is written, and between a window and its
 -- last the two alone.
-pub plan-12-written : chainOf 7 overlaps 0 5 ∷ chainOf 7 overlaps 3 5 ∷ chainOf 7 overlaps 3 1 ∷ chainOf 7 overlaps 6 6 ∷ chainOf 7 overlaps 5 6 ∷ chainOf 7 overlaps 0 3 ∷ []
-    ≡ (5 ∷ 4 ∷ 2 ∷ 0 ∷ []) ∷ (5 ∷ 4 ∷ 2 ∷ 3 ∷ []) ∷ (3 ∷ 0 ∷ 1 ∷ []) ∷ (6 ∷ []) ∷ [] ∷ (3 ∷ 0 ∷ []) ∷ []
+pub plan-12-written : chainOf 7 overlaps 0 5 ∷ chainOf 7 overlaps 3 5 ∷ chainOf 7 overlaps 3 1 ∷ chainOf 7 overlaps 6 6
+    ∷ chainOf 7 overlaps 5 6 ∷ chainOf 7 overlaps 0 3 ∷ [] ≡ (5 ∷ 4 ∷ 2 ∷ 0 ∷ []) ∷ (5 ∷ 4 ∷ 2 ∷ 3 ∷ []) ∷ (3 ∷ 0 ∷ 1 ∷ []) ∷ (6 ∷ []) ∷ [] ∷ (3 ∷ 0 ∷ []) ∷ []
 unfolding definitions climb walk chainOf
 plan-12-written = refl
 

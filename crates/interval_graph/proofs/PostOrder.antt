@@ -135,8 +135,8 @@ module _ (n : ℕ) {parent : ℕ → ℕ} (forest : Forest parent) where
       let below : List·Memᴰ x (postOrder n parent c) = postOrder-complete k x c h refl in
       let p : parent c ≡ v = sym (ancestor-suc forest k x) ∙ e in
       let b : c < n = omega (arith, ancestor-le forest k x) in
-      ⊎-elim (λ g. rw (postOrder-children v (omega arith))
-      (Memᴰ·append-left (v ∷ []) (flatMap-complete (postOrder n parent) (children n parent v) c x (children-complete v c (record { behind = omega arith; window = b; parent-is = p })) below)))
+      ⊎-elim (λ g. let m = children-complete v c (record { behind = omega arith; window = b; parent-is = p }) in
+      rw (postOrder-children v (omega arith)) (Memᴰ·append-left (v ∷ []) (flatMap-complete (postOrder n parent) (children n parent v) c x m below)))
       (λ g. let s : v ≡ c = omega (arith, forest .parent-le c) in rw s below) (lt-or-ge (parent c) c)
 
   -- Of a root, the list holds the windows of its component, and those only.

@@ -33,10 +33,10 @@ module _ (n : ℕ) {parent : ℕ → ℕ} (forest : Forest parent) where
           siblings : (c d x y : ℕ) → List·Memᴰ c (children n parent v) → List·Memᴰ d (children n parent v) → c < d →
               List·Memᴰ x (postOrder n parent c) → List·Memᴰ y (postOrder n parent d) → x ≡ y → ⊥
           siblings c d x y p q l a b e =
-              let i = children-sound n forest v c p in
-              let j = children-sound n forest v d q in
-              let one : c ≡ d = under-unique n forest c d y (postOrder-sound n forest c y (i .window) (rw e at a)) (postOrder-sound n forest d y (j .window) b) (child-depth n forest v c i ∙ sym (child-depth n forest v d j)) in
-              omega arith
+              let i = children-sound n forest v c p in let j = children-sound n forest v d q in
+              let under = postOrder-sound n forest c y (i .window) (rw e at a) in
+              let level = child-depth n forest v c i ∙ sym (child-depth n forest v d j) in
+              let one : c ≡ d = under-unique n forest c d y under (postOrder-sound n forest d y (j .window) b) level in omega arith
 
   -- The list of a window holds each of its windows once: the entry at i has index i.
   pub postOrder-once : (v i : ℕ) → v < n → i < length (postOrder n parent v) → indexOf (getD (postOrder n parent v) i 0) (postOrder n parent v) ≡ i

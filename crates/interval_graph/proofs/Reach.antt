@@ -37,8 +37,8 @@ module _ {n : ℕ} {overlaps : ℕ → ℕ → Bool} (ok : IntervalOrder n overl
   depth-lt-reach : (v w : ℕ) → v < n → w < n → component overlaps w ≡ component overlaps v → depth overlaps w < reach n overlaps v
   unfolding reach
   depth-lt-reach v w h g e =
-      let z = lastInComponent n overlaps v in
-      omega (arith, depth-monotone ok w z (lastInComponent-greatest n overlaps v w g e) (lastInComponent-window n overlaps v h) (component-root (tree overlaps) w z (e ∙ sym (lastInComponent-component n overlaps v))))
+      let z = lastInComponent n overlaps v in let r = component-root (tree overlaps) w z (e ∙ sym (lastInComponent-component n overlaps v)) in
+      omega (arith, depth-monotone ok w z (lastInComponent-greatest n overlaps v w g e) (lastInComponent-window n overlaps v h) r)
 
   -- No two windows of v's component are more handovers apart than its reach.
   pub reach-bound : (v a b k : ℕ) → v < n → a < n → b < n → component overlaps a ≡ component overlaps v →
