@@ -34,8 +34,7 @@ equal-rank : (x y : Numbers) → equal x y ≡ true → x .rank ≡ y .rank
 unfolding equal
 equal-rank x y t =
     let r = eqb (x .rank) (y .rank) && eqb (x .last) (y .last) in
-    let d = eqb (x .depth) (y .depth) && r in
-    let c = eqb (x .component) (y .component) && d in
+    let d = eqb (x .depth) (y .depth) && r in let c = eqb (x .component) (y .component) && d in
     eqb-true (x .rank) (y .rank) (and-left (eqb (x .rank) (y .rank)) (eqb (x .last) (y .last))
     (and-right (eqb (x .depth) (y .depth)) r (and-right (eqb (x .component) (y .component)) d (and-right (eqb (x .plan) (y .plan)) c t))))
 
@@ -49,11 +48,12 @@ equal-self x = rw (eqb-self (x .plan), eqb-self (x .component), eqb-self (x .dep
 
 module _ {n : ℕ} {overlaps : ℕ → ℕ → Bool} (ok : IntervalOrder n overlaps) where
   -- The count for u before v in one component, v deeper by D, where the ancestor of v on u's level is not behind u.
-  between-second : (u v D : ℕ) → Pair n overlaps u v D → ancestor overlaps D v ≤ u → cond (leb (rank n overlaps v) (rank n overlaps (last n overlaps u)) && ltb (rank n overlaps (last n overlaps u)) (rank n overlaps u)) D (D + 1) ≡ suc (climb n overlaps u v)
+  between-second : (u v D : ℕ) → Pair n overlaps u v D → ancestor overlaps D v ≤ u →
+      cond (leb (rank n overlaps v) (rank n overlaps (last n overlaps u)) && ltb (rank n overlaps (last n overlaps u)) (rank n overlaps u)) D (D + 1)
+      ≡ suc (climb n overlaps u v)
   between-second u v zero p h = absurd (omega (arith, ancestor-zero (tree overlaps) v, p .order))
   between-second u v (suc D) p h =
-      let x = ancestor overlaps D v in
-      let z = last n overlaps u in
+      let x = ancestor overlaps D v in let z = last n overlaps u in
       cond-cases (λ k. k ≡ suc (climb n overlaps u v)) (leb (rank n overlaps v) (rank n overlaps z) && ltb (rank n overlaps z) (rank n overlaps u))
       (λ s. omega (arith, climb-below-level ok u v D p (leb-true x z (sym (ranks-below-level ok u v D p) ∙ s))))
       (λ s. omega (arith, climb-to-level ok u v D p h (leb-false x z (sym (ranks-below-level ok u v D p) ∙ s))))
@@ -63,8 +63,7 @@ module _ {n : ℕ} {overlaps : ℕ → ℕ → Bool} (ok : IntervalOrder n overl
   unfolding between numbersOf lastRank
   between-pair u v p q D r =
       let e : depth overlaps v - depth overlaps u ≡ D = omega (arith, r .levels) in
-      let w = ancestor overlaps D v in
-      let z = last n overlaps u in
+      let w = ancestor overlaps D v in let z = last n overlaps u in
       let less = rank-lt-iff ok u v D (omega (arith, r .order, r .window)) (r .window) (r .one-root) (r .levels) in
       let counted : ℕ → Type 0 = λ k. k ≡ suc (climb n overlaps u v) in
       rw e (cond-cases counted (ltb (rank n overlaps u) (rank n overlaps v))
@@ -87,25 +86,22 @@ module _ {n : ℕ} {overlaps : ℕ → ℕ → Bool} (ok : IntervalOrder n overl
       comesFirst (numbersOf n overlaps p u) (numbersOf n overlaps q v) ≡ true
   unfolding comesFirst numbersOf
   first-earlier u v p q h g e =
-      let s = ltb (depth overlaps u) (depth overlaps v) in
-      let a = eqb (depth overlaps u) (depth overlaps v) in
-      let b = ltb (rank n overlaps u) (rank n overlaps v) in
-      ⊎-elim (λ l. or-left s (a && b) (lt-ltb (depth overlaps u) (depth overlaps v) l))
-      (λ l. let d : depth overlaps u ≡ depth overlaps v = omega (arith, depth-monotone ok u v (omega arith) g e) in
-      or-right s (a && b) (and-intro a b (eq-eqb (depth overlaps u) (depth overlaps v) d)
-      (lt-ltb (rank n overlaps u) (rank n overlaps v) (rank-lt-iff ok u v 0 (omega arith) g e (omega arith) .1 (omega (arith, ancestor-zero (tree overlaps) v))))))
-      (lt-or-ge (depth overlaps u) (depth overlaps v))
+      let i = depth overlaps u in let j = depth overlaps v in let x = rank n overlaps u in let y = rank n overlaps v in
+      let s = ltb i j in let a = eqb i j in let b = ltb x y in
+      ⊎-elim (λ l. or-left s (a && b) (lt-ltb i j l)) (λ l. let d : i ≡ j = omega (arith, depth-monotone ok u v (omega arith) g e) in
+      let r = rank-lt-iff ok u v 0 (omega arith) g e (omega arith) .1 (omega (arith, ancestor-zero (tree overlaps) v)) in
+      or-right s (a && b) (and-intro a b (eq-eqb i j d) (lt-ltb x y r))) (lt-or-ge i j)
 
   -- The later window does not come first.
   pub first-not-later : (u v p q : ℕ) → u < v → v < n → root overlaps u ≡ root overlaps v →
       comesFirst (numbersOf n overlaps p v) (numbersOf n overlaps q u) ≡ false
   unfolding comesFirst numbersOf
   first-not-later u v p q h g e =
-      let s = ltb (depth overlaps v) (depth overlaps u) in
-      let a = eqb (depth overlaps v) (depth overlaps u) in
-      let b = ltb (rank n overlaps v) (rank n overlaps u) in
-      let second : (a && b) ≡ false = ⊎-elim (λ t. absurd (refuted (eqb-true (depth overlaps v) (depth overlaps u) (and-left a b t)) (ltb-true (rank n overlaps v) (rank n overlaps u) (and-right a b t)))) (λ t. t) (truth (a && b)) in
-      or-false-right s (a && b) second ∙ le-ltb (depth overlaps v) (depth overlaps u) (depth-monotone ok u v (omega arith) g e)
+      let i = depth overlaps v in let j = depth overlaps u in let x = rank n overlaps v in let y = rank n overlaps u in
+      let s = ltb i j in let a = eqb i j in let b = ltb x y in
+      let no : (a && b) ≡ true → ⊥ = λ t. refuted (eqb-true i j (and-left a b t)) (ltb-true x y (and-right a b t)) in
+      let second : (a && b) ≡ false = ⊎-elim (λ t. absurd (no t)) (λ t. t) (truth (a && b)) in
+      or-false-right s (a && b) second ∙ le-ltb i j (depth-monotone ok u v (omega arith) g e)
     where
       refuted : depth overlaps v ≡ depth overlaps u → rank n overlaps v < rank n overlaps u → ⊥
       refuted d l = omega (arith, rank-lt-iff ok v u 0 g (omega arith) (sym e) (omega arith) .0 l, ancestor-zero (tree overlaps) u)
@@ -122,9 +118,9 @@ module _ {n : ℕ} {overlaps : ℕ → ℕ → Bool} (ok : IntervalOrder n overl
   -- The chain between two windows of one component has one handover more than the steps up from the later.
   pub chain-handovers : (u v : ℕ) → u < v → v < n → root overlaps u ≡ root overlaps v → handovers (chainOf n overlaps u v) ≡ suc (climb n overlaps u v)
   chain-handovers u v h g e =
-      let p : min u v ≡ u = omega arith in
-      let q : max u v ≡ v = omega arith in
-      let w : chainOf n overlaps u v ≡ walk n overlaps u v = rw (p, q) at (chain-walk n overlaps u v (λ s. omega arith) (rw (p, q) (climb-le-position ok u v e))) in
+      let p : min u v ≡ u = omega arith in let q : max u v ≡ v = omega arith in
+      let c = chain-walk n overlaps u v (λ s. omega arith) (rw (p, q) (climb-le-position ok u v e)) in
+      let w : chainOf n overlaps u v ≡ walk n overlaps u v = rw (p, q) at c in
       ap handovers w ∙ walk-handovers n overlaps u v
 
   not-equal : (a b p : ℕ) → a < n → b < n → (a ≡ b → ⊥) → equal (numbersOf n overlaps p a) (numbersOf n overlaps p b) ≡ false
@@ -136,7 +132,9 @@ module _ {n : ℕ} {overlaps : ℕ → ℕ → Bool} (ok : IntervalOrder n overl
   unfolding outcome
   outcome-self a p = rw (equal-self (numbersOf n overlaps p a))
 
-  outcome-two : (a b p : ℕ) → a < n → b < n → (a ≡ b → ⊥) → root overlaps a ≡ root overlaps b → outcome (numbersOf n overlaps p a) (numbersOf n overlaps p b) ≡ apart (cond (comesFirst (numbersOf n overlaps p a) (numbersOf n overlaps p b)) (between (numbersOf n overlaps p a) (numbersOf n overlaps p b)) (between (numbersOf n overlaps p b) (numbersOf n overlaps p a)))
+  outcome-two : (a b p : ℕ) → a < n → b < n → (a ≡ b → ⊥) → root overlaps a ≡ root overlaps b → outcome (numbersOf n overlaps p a) (numbersOf n overlaps p b)
+      ≡ apart (cond (comesFirst (numbersOf n overlaps p a) (numbersOf n overlaps p b))
+      (between (numbersOf n overlaps p a) (numbersOf n overlaps p b)) (between (numbersOf n overlaps p b) (numbersOf n overlaps p a)))
   unfolding outcome numbersOf
   outcome-two a b p g l d e =
       let t : equal (numbersOf n overlaps p a) (numbersOf n overlaps p b) ≡ false = not-equal a b p g l d in
@@ -191,5 +189,7 @@ module _ {n : ℕ} {overlaps : ℕ → ℕ → Bool} (ok : IntervalOrder n overl
 
   -- It is no chain exactly if none joins the two.
   pub outcome-no-chain : (a b p : ℕ) → a < n → b < n → (outcome (numbersOf n overlaps p a) (numbersOf n overlaps p b) ≡ no-chain) ↔ (Joined n overlaps a b → ⊥)
-  outcome-no-chain a b p g l =
-      (λ o j. let z : _≡_ {A = ℕ} 0 1 = cc (outcome-chain a b p g l (joined-root ok a b j)) in omega arith, λ d. outcome-none a b p g l (λ e. d (root-joined ok a b g l e)))
+  outcome-no-chain a b p g l = (
+    λ o j. let z : _≡_ {A = ℕ} 0 1 = cc (outcome-chain a b p g l (joined-root ok a b j)) in omega arith,
+    λ d. outcome-none a b p g l (λ e. d (root-joined ok a b g l e)),
+  )

@@ -79,13 +79,13 @@ module _ {n : ℕ} {overlaps : ℕ → ℕ → Bool} (ok : IntervalOrder n overl
   unfolding firstEntry lastEntry handovers
   overlap-iff-one u v h g = (
     λ t. record {
-      attained = (u ∷ (v ∷ []), leads-joins n overlaps u v (u ∷ (v ∷ [])) (leads-intro n overlaps u v (u ∷ (v ∷ [])) (chain-cons n overlaps u v [] h t (chain-alone n overlaps v g)) refl refl), refl);
+      attained = let l = u ∷ (v ∷ []) in let c = chain-cons n overlaps u v [] h t (chain-alone n overlaps v g) in
+          (l, leads-joins n overlaps u v l (leads-intro n overlaps u v l c refl refl), refl);
       none-fewer = λ l j.
           ⊎-elim (λ s. leads-some u v l s (overlap-distinct ok u v t))
           (λ s. leads-some v u l s (λ e. overlap-distinct ok u v t (sym e))) (joins-cases n overlaps u v l j);
     },
-    λ p.
-        let l = p .attained .0 in
+    λ p. let l = p .attained .0 in
         ⊎-elim (λ s. leads-one u v l s (p .attained .2)) (λ s. ok .symmetric u v ∙ leads-one v u l s (p .attained .2))
         (joins-cases n overlaps u v l (p .attained .1)),
   )
@@ -110,7 +110,8 @@ module _ {n : ℕ} {first second : ℕ → ℕ → Bool} (ok : IntervalOrder n f
   -- The same numbers come from the same overlaps.
   pub numbers-overlaps : SameNumbers n first second → SameOverlaps n first second
   numbers-overlaps s u v h g =
-      let e : outcome (numbersOf n first 0 u) (numbersOf n first 0 v) ≡ outcome (numbersOf n second 0 u) (numbersOf n second 0 v) = rw (numbers-equal s 0 u h, numbers-equal s 0 v g) in
+      let e : outcome (numbersOf n first 0 u) (numbersOf n first 0 v) ≡ outcome (numbersOf n second 0 u) (numbersOf n second 0 v) =
+      rw (numbers-equal s 0 u h, numbers-equal s 0 v g) in
       iff-equal (first u v) (second u v)
       (λ t. overlap-iff-one ok′ u v h g .1 (outcome-apart ok′ u v 0 1 h g .0 (sym e ∙ outcome-apart ok u v 0 1 h g .1 (overlap-iff-one ok u v h g .0 t))))
       (λ t. overlap-iff-one ok u v h g .1 (outcome-apart ok u v 0 1 h g .0 (e ∙ outcome-apart ok′ u v 0 1 h g .1 (overlap-iff-one ok′ u v h g .0 t))))

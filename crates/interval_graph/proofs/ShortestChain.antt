@@ -119,17 +119,16 @@ module _ {n : ℕ} {overlaps : ℕ → ℕ → Bool} (ok : IntervalOrder n overl
   -- The chain between two windows that some chain joins is a shortest, with the earliest window at each step.
   pub chain-earliest-shortest : (a b : ℕ) → a < n → b < n → Joined n overlaps a b → EarliestShortest n overlaps a b (chainOf n overlaps a b)
   chain-earliest-shortest a b g l j =
-      let c = chainOf n overlaps a b in
-      let best = chain-best a b g l (joined-root a b j) in
-      let later = later-leads n overlaps (ok .symmetric) a b in
+      let c = chainOf n overlaps a b in let best = chain-best a b g l (joined-root a b j) in
+      let joining = joins-of-later n overlaps a b c (best .leading) in let later = later-leads n overlaps (ok .symmetric) a b in
       record {
         shortest = record {
-          joining = joins-of-later n overlaps a b c (best .leading);
+          joining = joining;
           none-shorter = λ m t. omega (arith, best .fewest (fromLater a b m) (later m t), handovers-later a b m);
         };
         earliest = λ m s i h.
             rw (later-same a b c (leads-first n overlaps (max a b) (min a b) c (best .leading)))
-            (best .earliest (fromLater a b m) (later m (s .joining)) (omega (arith, handovers-later a b m, s .none-shorter c (joins-of-later n overlaps a b c (best .leading)))) i h);
+            (best .earliest (fromLater a b m) (later m (s .joining)) (omega (arith, handovers-later a b m, s .none-shorter c joining)) i h);
       }
 
   -- Its handovers are the least number.

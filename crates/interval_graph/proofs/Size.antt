@@ -68,9 +68,7 @@ module _ (n : ℕ) {parent : ℕ → ℕ} (forest : Forest parent) where
   unfolding children
   children-split v c k =
       let p : ℕ → Bool = λ s. ltb v s && eqb (parent s) v in
-      let r = n - suc c in
-      let whole : n ≡ c + suc r = omega (arith, k .window) in
-      let from : 0 + c ≡ c = omega arith in
+      let r = n - suc c in let whole : n ≡ c + suc r = omega (arith, k .window) in let from : 0 + c ≡ c = omega arith in
       let passes : p c ≡ true = and-intro (ltb v c) (eqb (parent c) v) (lt-ltb v c (k .behind)) (eq-eqb (parent c) v (k .parent-is)) in (
         passing p (suc c) r,
         ap (passing p 0) whole ∙ (passing-add p 0 c (suc r) ∙ (ap (λ (z : ℕ). passing p 0 c ++ passing p z (suc r)) from
@@ -88,21 +86,22 @@ module _ (n : ℕ) {parent : ℕ → ℕ} (forest : Forest parent) where
       List·Memᴰ y (flatMap (postOrder n parent) (earlierSiblings n parent c)) → ⊥
   not-earlier v c y k m g =
       let r = flatMap-sound (postOrder n parent) (earlierSiblings n parent c) y g in
-      let q = earlier-sound v c (r .0) k (r .1) in
-      let same : r .0 ≡ c = under-unique (r .0) c y (postOrder-sound n forest (r .0) y (q .1 .window) (r .2)) (postOrder-sound n forest c y (k .window) m) (child-depth n forest v (r .0) (q .1) ∙ sym (child-depth n forest v c k)) in
-      omega (arith, q .0)
+      let q = earlier-sound v c (r .0) k (r .1) in let under = postOrder-sound n forest (r .0) y (q .1 .window) (r .2) in
+      let level = child-depth n forest v (r .0) (q .1) ∙ sym (child-depth n forest v c k) in
+      let same : r .0 ≡ c = under-unique (r .0) c y under (postOrder-sound n forest c y (k .window) m) level in omega (arith, q .0)
 
   -- In the list of v the list of a child stands behind those of its earlier siblings.
   index-in-child : (v c y : ℕ) → v < n → Child n parent v c → List·Memᴰ y (postOrder n parent c) →
       indexOf y (postOrder n parent v) ≡ total (size n parent) (earlierSiblings n parent c) + indexOf y (postOrder n parent c)
   unfolding size flatMap
   index-in-child v c y h k m =
-      let P = postOrder n parent in
-      let after = children-split v c k .0 in
-      let before = flatMap P (earlierSiblings n parent c) in
-      let behind = flatMap P after ++ (v ∷ []) in
-      let shape : P v ≡ before ++ (P c ++ behind) = postOrder-children n forest v h ∙ (ap (λ (l : List ℕ). flatMap P l ++ (v ∷ [])) (children-split v c k .1) ∙ (ap (λ (l : List ℕ). l ++ (v ∷ [])) (flatMap-append P (earlierSiblings n parent c) (c ∷ after)) ∙ simp append-assoc)) in
-      omega (arith, ap (indexOf y) shape, index-append-right y before (P c ++ behind) (index-absent y before (not-earlier v c y k m)), index-append-left y (P c) behind (index-below y (P c) m), length-flatMap P (earlierSiblings n parent c))
+      let P = postOrder n parent in let E = earlierSiblings n parent c in let split = children-split v c k in
+      let before = flatMap P E in let behind = flatMap P (split .0) ++ (v ∷ []) in
+      let parts = ap (λ (l : List ℕ). l ++ (v ∷ [])) (flatMap-append P E (c ∷ split .0)) in
+      let whole = postOrder-children n forest v h ∙ ap (λ (l : List ℕ). flatMap P l ++ (v ∷ [])) (split .1) in
+      let shape : P v ≡ before ++ (P c ++ behind) = whole ∙ (parts ∙ simp append-assoc) in
+      let past = index-append-right y before (P c ++ behind) (index-absent y before (not-earlier v c y k m)) in
+      omega (arith, ap (indexOf y) shape, past, index-append-left y (P c) behind (index-below y (P c) m), length-flatMap P E)
 
   pub not-below : (v : ℕ) → List·Memᴰ v (flatMap (postOrder n parent) (children n parent v)) → ⊥
   not-below v g =
@@ -115,8 +114,8 @@ module _ (n : ℕ) {parent : ℕ → ℕ} (forest : Forest parent) where
   unfolding size
   index-self v h =
       let below = flatMap (postOrder n parent) (children n parent v) in
-      let whole = postOrder-children n forest v h in
-      omega (arith, ap (indexOf v) whole, index-append-right v below (v ∷ []) (index-absent v below (not-below v)), index-here v v [] refl, ap length whole, length-append below (v ∷ []))
+      let whole = postOrder-children n forest v h in let past = index-append-right v below (v ∷ []) (index-absent v below (not-below v)) in
+      omega (arith, ap (indexOf v) whole, past, index-here v v [] refl, ap length whole, length-append below (v ∷ []))
 
   -- Where something of v's list stands in the root's list.
   pub rank-in-list : (d v y : ℕ) → depth parent v ≡ d → v < n → List·Memᴰ y (postOrder n parent v) →

@@ -97,7 +97,9 @@ module _ {n : ℕ} {overlaps : ℕ → ℕ → Bool} (ok : IntervalOrder n overl
   climb-lt-handovers u v [] h t = absurd (chain-not-empty n overlaps (leads-chain n overlaps v u [] t))
   climb-lt-handovers u v (x ∷ []) h t = absurd (omega (arith, leads-first n overlaps v u (x ∷ []) t, leads-last n overlaps v u (x ∷ []) t))
   climb-lt-handovers u v (x ∷ (y ∷ l)) h t =
-      omega (arith, climb-le n overlaps u v (length l) (chain-climbs ok l x y v u (leads-chain n overlaps v u (x ∷ (y ∷ l)) t) (leads-last n overlaps v u (x ∷ (y ∷ l)) t) (omega (arith, leads-first n overlaps v u (x ∷ (y ∷ l)) t))))
+      let m = x ∷ (y ∷ l) in let first = leads-first n overlaps v u m t in
+      let c = chain-climbs ok l x y v u (leads-chain n overlaps v u m t) (leads-last n overlaps v u m t) (omega (arith, first)) in
+      omega (arith, climb-le n overlaps u v (length l) c)
 
   -- At each step it is at or behind the ancestor.
   pub ancestor-le-entry : (u v : ℕ) (m : List ℕ) → leads n overlaps v u m ≡ true → (i : ℕ) → i ≤ handovers m → ancestor overlaps i v ≤ getD m i 0
@@ -122,8 +124,7 @@ module _ {n : ℕ} {overlaps : ℕ → ℕ → Bool} (ok : IntervalOrder n overl
       at-the-end : (m : List ℕ) → leads n overlaps v u m ≡ true → handovers m ≤ handovers (walk n overlaps u v) → (i : ℕ) →
           i ≤ handovers (walk n overlaps u v) → suc (climb n overlaps u v) ≤ i → getD (walk n overlaps u v) i 0 ≤ getD m i 0
       at-the-end m t f i b e =
-          let w = walk n overlaps u v in
-          let p : i ≡ handovers w = omega (arith, walk-handovers n overlaps u v) in
+          let w = walk n overlaps u v in let p : i ≡ handovers w = omega (arith, walk-handovers n overlaps u v) in
           let q : i ≡ handovers m = omega (arith, walk-handovers n overlaps u v, climb-lt-handovers u v m h t) in
           omega (arith, ap (λ k. getD w k 0) p, ap (λ k. getD m k 0) q, last-getD w, last-getD m, walk-last n overlaps u v, leads-last n overlaps v u m t)
 
