@@ -189,7 +189,6 @@ module _ {n : ℕ} {overlaps : ℕ → ℕ → Bool} (ok : IntervalOrder n overl
 
   -- It is no chain exactly if none joins the two.
   pub outcome-no-chain : (a b p : ℕ) → a < n → b < n → (outcome (numbersOf n overlaps p a) (numbersOf n overlaps p b) ≡ no-chain) ↔ (Joined n overlaps a b → ⊥)
-  outcome-no-chain a b p g l = (
-    λ o j. let z : _≡_ {A = ℕ} 0 1 = cc (outcome-chain a b p g l (joined-root ok a b j)) in omega arith,
-    λ d. outcome-none a b p g l (λ e. d (root-joined ok a b g l e)),
-  )
+  outcome-no-chain a b p g l =
+      let root = joined-root ok a b in let chain = root-joined ok a b g l in
+      (λ o j. let z : _≡_ {A = ℕ} 0 1 = cc (outcome-chain a b p g l (root j)) in omega arith, λ d. outcome-none a b p g l (λ e. d (chain e)))

@@ -110,8 +110,8 @@ module _ {n : ℕ} {first second : ℕ → ℕ → Bool} (ok : IntervalOrder n f
   -- The same numbers come from the same overlaps.
   pub numbers-overlaps : SameNumbers n first second → SameOverlaps n first second
   numbers-overlaps s u v h g =
-      let e : outcome (numbersOf n first 0 u) (numbersOf n first 0 v) ≡ outcome (numbersOf n second 0 u) (numbersOf n second 0 v) =
-      rw (numbers-equal s 0 u h, numbers-equal s 0 v g) in
+      let a = numbersOf n first 0 in let b = numbersOf n second 0 in
+      let e : outcome (a u) (a v) ≡ outcome (b u) (b v) = rw (numbers-equal s 0 u h, numbers-equal s 0 v g) in
       iff-equal (first u v) (second u v)
       (λ t. overlap-iff-one ok′ u v h g .1 (outcome-apart ok′ u v 0 1 h g .0 (sym e ∙ outcome-apart ok u v 0 1 h g .1 (overlap-iff-one ok u v h g .0 t))))
       (λ t. overlap-iff-one ok u v h g .1 (outcome-apart ok u v 0 1 h g .0 (e ∙ outcome-apart ok′ u v 0 1 h g .1 (overlap-iff-one ok′ u v h g .0 t))))

@@ -20,8 +20,8 @@ pub plan-first : {A : Type 0} (file : List ℕ) (more : List Question) (refused 
     firstNo (planQuestions file ++ more) refused accepted ≡ afterValidation (validateAnswerOf file) refused (firstNo more refused accepted)
 unfolding validateAnswerOf
 plan-first file more refused accepted =
-    first-append (planQuestions file) more refused accepted
-    ∙ sym (first-map (λ v. afterValidation v refused (firstNo more refused accepted)) (planQuestions file) Refused (Accepted (planNumber file) (windowCount file)))
+    let whole = Accepted (planNumber file) (windowCount file) in first-append (planQuestions file) more refused accepted
+    ∙ sym (first-map (λ v. afterValidation v refused (firstNo more refused accepted)) (planQuestions file) Refused whole)
 
 -- A validation that is accepted is so with the file's own numbers.
 pub accepted-numbers : (file : List ℕ) (plan windows : ℕ) → Accepted plan windows ≡ validateAnswerOf file →
@@ -34,11 +34,11 @@ accepted-numbers file plan windows e =
 -- So the file is that of an accepted plan.
 pub accepted-plan : (file : List ℕ) (plan windows : ℕ) → Accepted plan windows ≡ validateAnswerOf file → AcceptedPlan file
 accepted-plan file plan windows e =
-    let numbers = accepted-numbers file plan windows e in
-    validated-accepted file (sym e ∙ cc)
+    let numbers = accepted-numbers file plan windows e in validated-accepted file (sym e ∙ cc)
 
 -- The answer of a call that validates first and then asks more, by what the validation answered.
-module _ {A : Type 0} (file : List ℕ) (more : List Question) (refused : Refusal → A) (accepted : A) (answer : Validation) (validated : answer ≡ validateAnswerOf file) where
+module _ {A : Type 0} (file : List ℕ) (more : List Question) (refused : Refusal → A) (accepted : A)
+    (answer : Validation) (validated : answer ≡ validateAnswerOf file) where
   pub plan-refused : (refusal : Refusal) → answer ≡ Refused refusal → refused refusal ≡ firstNo (planQuestions file ++ more) refused accepted
   plan-refused refusal e = sym (plan-first file more refused accepted ∙ rw (← validated, e))
 
@@ -47,7 +47,8 @@ module _ {A : Type 0} (file : List ℕ) (more : List Question) (refused : Refusa
   plan-accepted plan windows e = sym (plan-first file more refused accepted ∙ rw (← validated, e))
 
 -- The same where one question more is asked.
-module _ {A : Type 0} (file : List ℕ) (q : Question) (refused : Refusal → A) (accepted : A) (answer : Validation) (validated : answer ≡ validateAnswerOf file) (plan windows : ℕ) (e : answer ≡ Accepted plan windows) where
+module _ {A : Type 0} (file : List ℕ) (q : Question) (refused : Refusal → A) (accepted : A)
+    (answer : Validation) (validated : answer ≡ validateAnswerOf file) (plan windows : ℕ) (e : answer ≡ Accepted plan windows) where
   pub one-more-no : q .yes ≡ false → refused (q .refusal) ≡ firstNo (planQuestions file ++ (q ∷ [])) refused accepted
   one-more-no t = sym (first-no [] refused accepted q t) ∙ plan-accepted file (q ∷ []) refused accepted answer validated plan windows e
 
@@ -60,5 +61,5 @@ pub plan-second : {A : Type 0} (file : List ℕ) (refused : Refusal → A) (acce
     firstNo (from 1 (planQuestions file)) refused accepted ≡ afterValidation (validateAnswerOf file) (λ r. refused (refusalFrom 1 r)) accepted
 unfolding validateAnswerOf
 plan-second file refused accepted =
-    first-from 1 (planQuestions file) refused accepted
-    ∙ sym (first-map (λ v. afterValidation v (λ r. refused (refusalFrom 1 r)) accepted) (planQuestions file) Refused (Accepted (planNumber file) (windowCount file)))
+    let whole = Accepted (planNumber file) (windowCount file) in first-from 1 (planQuestions file) refused accepted
+    ∙ sym (first-map (λ v. afterValidation v (λ r. refused (refusalFrom 1 r)) accepted) (planQuestions file) Refused whole)

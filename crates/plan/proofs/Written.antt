@@ -79,11 +79,12 @@ windowsPass before [] = true
 windowsPass before (w ∷ later) = allYes (windowQuestions before w) && windowsPass (w .offset) later
 
 -- One window more, that is read from a file.
-window-more : (file : List ℕ) (v : ℕ) (w : Window) (later : List Window) → windowAt file v ≡ w → (allYes (windowsAsked file v) && windowsPass (offsetBefore file (suc v)) later) ≡ (allYes (windowQuestions (offsetBefore file v) w) && windowsPass (w .offset) later)
+window-more : (file : List ℕ) (v : ℕ) (w : Window) (later : List Window) → windowAt file v ≡ w →
+    (allYes (windowsAsked file v) && windowsPass (offsetBefore file (suc v)) later)
+    ≡ (allYes (windowQuestions (offsetBefore file v) w) && windowsPass (w .offset) later)
 unfolding offsetBefore
 window-more file v w later here =
-    let next : offsetBefore file (suc v) ≡ w .offset = ap (λ (x : Window). x .offset) here in
-    rw (next, here)
+    let next : offsetBefore file (suc v) ≡ w .offset = ap (λ (x : Window). x .offset) here in rw (next, here)
 
 -- The questions of a file's windows from v on, where they are those of a list.
 windows-asked : (file : List ℕ) (v : ℕ) (windows : List Window) (d : Window) → ((i : ℕ) → i < length windows → windowAt file (v + i) ≡ getD windows i d) →

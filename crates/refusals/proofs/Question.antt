@@ -166,7 +166,8 @@ module _ {A : Type 0} (questions : ℕ → List Question) (refused : Refusal →
 
   module _ (v : ℕ) (inside : v < n) (s : Asking questions refused accepted n v) where
     -- What is left, by what is answered about the window at v.
-    here : firstNo (each questions v (n - v)) refused accepted ≡ afterAsked (askedOf (questions v)) (λ r. refused (refusalAbout v r)) (firstNo (each questions (v + 1) (n - (v + 1))) refused accepted)
+    here : firstNo (each questions v (n - v)) refused accepted ≡ afterAsked (askedOf (questions v)) (λ r. refused (refusalAbout v r))
+        (firstNo (each questions (v + 1) (n - (v + 1))) refused accepted)
     unfolding each
     here =
         let e : n - v ≡ suc (n - (v + 1)) = omega arith in
@@ -199,5 +200,6 @@ module _ (first second windows : ℕ) where
   pub passed-within : Passed ≡ askedOf (positionQuestions first second windows) → (first < windows) × (second < windows)
   unfolding askedOf positionQuestions positionQuestion question from
   passed-within e =
-      let all = all-member (positionQuestions first second windows) (first-all (positionQuestions first second windows) Refused Passed (λ r s. let z : _≡_ {A = ℕ} 0 1 = cc in omega arith) (sym e)) in
+      let qs = positionQuestions first second windows in
+      let all = all-member qs (first-all qs Refused Passed (λ r s. let z : _≡_ {A = ℕ} 0 1 = cc in omega arith) (sym e)) in
       (ltb-true _ _ (all _ (List·Memᴰ·head refl)), ltb-true _ _ (all _ (List·Memᴰ·tail (List·Memᴰ·head refl))))

@@ -26,7 +26,7 @@ module _ (R : ℕ → ℕ → Type 0) where
   pub pairwise-append : (l m : List ℕ) → Pairwise R l → Pairwise R m → ((x y : ℕ) → List·Memᴰ x l → List·Memᴰ y m → R x y) → Pairwise R (l ++ m)
   pairwise-append [] m p q c = q
   pairwise-append (x ∷ l) m p q c =
-      (λ y h. ⊎-elim (λ g. p .0 y g) (λ g. c x y (List·Memᴰ·head refl) g) (List·Memᴰ·append-cases l h), pairwise-append l m (p .1) q (λ a b g h. c a b (List·Memᴰ·tail g) h))
+      (λ y h. ⊎-elim (p .0 y) (c x y (List·Memᴰ·head refl)) (List·Memᴰ·append-cases l h), pairwise-append l m (p .1) q (λ a b g. c a b (List·Memᴰ·tail g)))
 
   -- The lists of pairwise elements, each pairwise, one after another.
   pub pairwise-flatMap : (S : ℕ → ℕ → Type 0) (f : ℕ → List ℕ) (l : List ℕ) → Pairwise S l → ((c : ℕ) → List·Memᴰ c l → Pairwise R (f c)) →
@@ -44,9 +44,9 @@ module _ (R : ℕ → ℕ → Type 0) where
   pairwise-index [] x y p g h i = absurd (List·Memᴰ·not-nil g)
   pairwise-index (z ∷ l) x y p g h i =
       ⊎-elim (λ t. absurd (omega (arith, index-here y z l (eqb-true y z t))))
-      (λ t. let behind : List·Memᴰ y l = member-tail y z l (eqb-false y z t) h in
-      ⊎-elim (λ s. rw (eqb-true x z s) (p .0 y behind))
-      (λ s. pairwise-index l x y (p .1) (member-tail x z l (eqb-false x z s) g) behind (omega (arith, index-there x z l (eqb-false x z s), index-there y z l (eqb-false y z t))))
+      (λ t. let d = eqb-false y z t in let behind : List·Memᴰ y l = member-tail y z l d h in
+      ⊎-elim (λ s. rw (eqb-true x z s) (p .0 y behind)) (λ s. let e = eqb-false x z s in
+      pairwise-index l x y (p .1) (member-tail x z l e g) behind (omega (arith, index-there x z l e, index-there y z l d)))
       (truth (eqb x z))) (truth (eqb y z))
 
   module _ (irreflexive : (x : ℕ) → R x x → ⊥) where

@@ -28,7 +28,8 @@ module _ {A B : Type 0} (f : A → List B) (width : ℕ) (wide : (x : A) → len
       rw (append-assoc (f x) (flatMap f l) rest, on, drop-append-add (f x) (flatMap f l ++ rest) (width * v)) (record-part l v d rest (omega arith))
 
   -- One record more: the turn of a pass that fills a table with records, where each goes to the front of what is left.
-  pub records-turn : (g : ℕ → A) (v : ℕ) (before : List B) → take (width * v) (overwritten before (flatMap f (table g v))) ++ overwritten (drop (width * v) (overwritten before (flatMap f (table g v)))) (f (g v)) ≡ overwritten before (flatMap f (table g (suc v)))
+  pub records-turn : (g : ℕ → A) (v : ℕ) (before : List B) → take (width * v) (overwritten before (flatMap f (table g v)))
+      ++ overwritten (drop (width * v) (overwritten before (flatMap f (table g v)))) (f (g v)) ≡ overwritten before (flatMap f (table g (suc v)))
   unfolding overwritten table flatMap
   records-turn g v before =
       let long : length (flatMap f (table g v)) ≡ width * v = length-records (table g v) ∙ rw (length-table g v) in
