@@ -28,8 +28,7 @@ module _ {parent : ℕ → ℕ} (forest : Forest parent) where
   -- What is no root has its parent before it.
   pub not-root-below : (v : ℕ) → isRoot parent v ≡ false → parent v < v
   unfolding isRoot
-  not-root-below v t =
-      ⊎-elim (λ h. h) (λ h. absurd (eqb-false (parent v) v t (omega (arith, forest .parent-le v)))) (lt-or-ge (parent v) v)
+  not-root-below v t = ⊎-elim (λ h. h) (λ h. absurd (eqb-false (parent v) v t (omega (arith, forest .parent-le v)))) (lt-or-ge (parent v) v)
 
   -- Steps that meet no root lower the position by as many, at least.
   pub ancestor-falls : (i v : ℕ) → ((j : ℕ) → j < i → isRoot parent (ancestor parent j v) ≡ false) → ancestor parent i v + i ≤ v

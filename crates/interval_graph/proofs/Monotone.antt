@@ -75,8 +75,7 @@ module _ {n : ℕ} {overlaps : ℕ → ℕ → Bool} (ok : IntervalOrder n overl
   pub component-roots : (v : ℕ) → v < n → count (isRoot overlaps) (suc v) ≡ suc (component overlaps v)
   unfolding Forest.component
   component-roots v g =
-      let r = root overlaps v in
-      let e : suc v ≡ suc r + (v - r) = omega (arith, root-le (tree overlaps) v) in
+      let r = root overlaps v in let e : suc v ≡ suc r + (v - r) = omega (arith, root-le (tree overlaps) v) in
       rw e (count-none (isRoot overlaps) (suc r) (v - r) none ∙ count-true (isRoot overlaps) r (root-is-root (tree overlaps) v))
     where
       none : (i : ℕ) → suc (root overlaps v) ≤ i → i < suc (root overlaps v) + (v - root overlaps v) → isRoot overlaps i ≡ false

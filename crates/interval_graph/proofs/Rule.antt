@@ -26,8 +26,7 @@ use Rattle.interval_graph.proofs.Parent.{tree}
 equal-component : (x y : Numbers) → equal x y ≡ true → x .component ≡ y .component
 unfolding equal
 equal-component x y t =
-    let r = eqb (x .depth) (y .depth) && (eqb (x .rank) (y .rank) && eqb (x .last) (y .last)) in
-    eqb-true (x .component) (y .component)
+    let r = eqb (x .depth) (y .depth) && (eqb (x .rank) (y .rank) && eqb (x .last) (y .last)) in eqb-true (x .component) (y .component)
     (and-left (eqb (x .component) (y .component)) r (and-right (eqb (x .plan) (y .plan)) (eqb (x .component) (y .component) && r) t))
 
 equal-rank : (x y : Numbers) → equal x y ≡ true → x .rank ≡ y .rank
@@ -120,8 +119,7 @@ module _ {n : ℕ} {overlaps : ℕ → ℕ → Bool} (ok : IntervalOrder n overl
   chain-handovers u v h g e =
       let p : min u v ≡ u = omega arith in let q : max u v ≡ v = omega arith in
       let c = chain-walk n overlaps u v (λ s. omega arith) (rw (p, q) (climb-le-position ok u v e)) in
-      let w : chainOf n overlaps u v ≡ walk n overlaps u v = rw (p, q) at c in
-      ap handovers w ∙ walk-handovers n overlaps u v
+      let w : chainOf n overlaps u v ≡ walk n overlaps u v = rw (p, q) at c in ap handovers w ∙ walk-handovers n overlaps u v
 
   not-equal : (a b p : ℕ) → a < n → b < n → (a ≡ b → ⊥) → equal (numbersOf n overlaps p a) (numbersOf n overlaps p b) ≡ false
   not-equal a b p g l d =
@@ -138,8 +136,7 @@ module _ {n : ℕ} {overlaps : ℕ → ℕ → Bool} (ok : IntervalOrder n overl
   unfolding outcome numbersOf
   outcome-two a b p g l d e =
       let t : equal (numbersOf n overlaps p a) (numbersOf n overlaps p b) ≡ false = not-equal a b p g l d in
-      let s : eqb (component overlaps a) (component overlaps b) ≡ true = eq-eqb _ _ (root-component (tree overlaps) a b e) in
-      rw (t, s)
+      let s : eqb (component overlaps a) (component overlaps b) ≡ true = eq-eqb _ _ (root-component (tree overlaps) a b e) in rw (t, s)
 
   -- For windows of one component the outcome is the count of the chain between them.
   pub outcome-chain : (a b p : ℕ) → a < n → b < n → root overlaps a ≡ root overlaps b →

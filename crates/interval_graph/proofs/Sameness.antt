@@ -69,8 +69,7 @@ module _ {n : ℕ} {overlaps : ℕ → ℕ → Bool} (ok : IntervalOrder n overl
   leads-one a b [] t e = absurd (omega arith)
   leads-one a b (x ∷ []) t e = absurd (omega arith)
   leads-one a b (x ∷ (y ∷ [])) t e =
-      let p : x ≡ a = leads-first n overlaps a b (x ∷ (y ∷ [])) t in
-      let q : y ≡ b = leads-last n overlaps a b (x ∷ (y ∷ [])) t in
+      let p : x ≡ a = leads-first n overlaps a b (x ∷ (y ∷ [])) t in let q : y ≡ b = leads-last n overlaps a b (x ∷ (y ∷ [])) t in
       rw (← p, ← q) (chain-overlap n overlaps x y [] (leads-chain n overlaps a b (x ∷ (y ∷ [])) t))
   leads-one a b (x ∷ (y ∷ (z ∷ l))) t e = absurd (omega arith)
 

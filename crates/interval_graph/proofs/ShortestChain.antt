@@ -32,16 +32,14 @@ module _ (n : ℕ) (overlaps : ℕ → ℕ → Bool) where
   unfolding chainOf
   chain-walk a b d h =
       let t : eqb a b ≡ false = ne-eqb a b d in
-      let s : leb (climb n overlaps (min a b) (max a b)) (max a b) ≡ true = le-leb _ _ h in
-      rw (t, s)
+      let s : leb (climb n overlaps (min a b) (max a b)) (max a b) ≡ true = le-leb _ _ h in rw (t, s)
 
   -- Nothing where the walk does not arrive.
   pub chain-none : (a b : ℕ) → (a ≡ b → ⊥) → max a b < climb n overlaps (min a b) (max a b) → chainOf n overlaps a b ≡ []
   unfolding chainOf
   chain-none a b d h =
       let t : eqb a b ≡ false = ne-eqb a b d in
-      let s : leb (climb n overlaps (min a b) (max a b)) (max a b) ≡ false = lt-leb _ _ h in
-      rw (t, s)
+      let s : leb (climb n overlaps (min a b) (max a b)) (max a b) ≡ false = lt-leb _ _ h in rw (t, s)
 
   -- In either order of naming it is one chain.
   pub chain-symmetric : (a b : ℕ) → chainOf n overlaps a b ≡ chainOf n overlaps b a
@@ -50,8 +48,7 @@ module _ (n : ℕ) (overlaps : ℕ → ℕ → Bool) where
     where
       different : (a ≡ b → ⊥) → chainOf n overlaps a b ≡ chainOf n overlaps b a
       different d =
-          let p : min a b ≡ min b a = omega arith in
-          let q : max a b ≡ max b a = omega arith in
+          let p : min a b ≡ min b a = omega arith in let q : max a b ≡ max b a = omega arith in
           ⊎-elim (λ h. chain-none a b d h ∙ sym (chain-none b a (λ e. d (sym e)) (rw (← p, ← q) h)))
           (λ h. chain-walk a b d h ∙ (rw (p, q) (sym (chain-walk b a (λ e. d (sym e)) (rw (← p, ← q) h)))))
           (lt-or-ge (max a b) (climb n overlaps (min a b) (max a b)))
@@ -64,11 +61,9 @@ later-same a b l e = let t : eqb (firstEntry l) (max a b) ≡ true = eq-eqb (fir
 -- What leads from the later to the earlier joins the two.
 joins-of-later : (n : ℕ) (overlaps : ℕ → ℕ → Bool) (a b : ℕ) (l : List ℕ) → leads n overlaps (max a b) (min a b) l ≡ true → joins n overlaps a b l ≡ true
 joins-of-later n overlaps a b l t =
-    ⊎-elim (λ h. let p : max a b ≡ b = omega arith in
-    let q : min a b ≡ a = omega arith in
-    joins-swap n overlaps b a l (leads-joins n overlaps b a l (rw (p, q) at t))) (λ h. let p : max a b ≡ a = omega arith in
-    let q : min a b ≡ b = omega arith in
-    leads-joins n overlaps a b l (rw (p, q) at t)) (lt-or-ge a b)
+    ⊎-elim (λ h. let p : max a b ≡ b = omega arith in let q : min a b ≡ a = omega arith in
+    joins-swap n overlaps b a l (leads-joins n overlaps b a l (rw (p, q) at t)))
+    (λ h. let p : max a b ≡ a = omega arith in let q : min a b ≡ b = omega arith in leads-joins n overlaps a b l (rw (p, q) at t)) (lt-or-ge a b)
 
 module _ {n : ℕ} {overlaps : ℕ → ℕ → Bool} (ok : IntervalOrder n overlaps) where
   -- Windows that a chain leads from and to have one root.
@@ -85,17 +80,13 @@ module _ {n : ℕ} {overlaps : ℕ → ℕ → Bool} (ok : IntervalOrder n overl
 
   root-ends : (a b : ℕ) → root overlaps a ≡ root overlaps b → root overlaps (min a b) ≡ root overlaps (max a b)
   root-ends a b e =
-      ⊎-elim (λ h. let p : max a b ≡ b = omega arith in
-      let q : min a b ≡ a = omega arith in
-      rw (p, q) e) (λ h. let p : max a b ≡ a = omega arith in
-      let q : min a b ≡ b = omega arith in
-      rw (p, q) (sym e)) (lt-or-ge a b)
+      ⊎-elim (λ h. let p : max a b ≡ b = omega arith in let q : min a b ≡ a = omega arith in rw (p, q) e)
+      (λ h. let p : max a b ≡ a = omega arith in let q : min a b ≡ b = omega arith in rw (p, q) (sym e)) (lt-or-ge a b)
 
   -- In one component the chain is the best from the later window to the earlier.
   pub chain-best : (a b : ℕ) → a < n → b < n → root overlaps a ≡ root overlaps b → Best n overlaps (max a b) (min a b) (chainOf n overlaps a b)
   chain-best a b g l e =
-      ⊎-elim (λ s. let p : max a b ≡ a = omega arith in
-      let q : min a b ≡ a = omega arith in
+      ⊎-elim (λ s. let p : max a b ≡ a = omega arith in let q : min a b ≡ a = omega arith in
       rw (chain-same n overlaps a b s, p, q) (alone-best ok a g))
       (λ d. let r : climb n overlaps (min a b) (max a b) ≤ max a b = climb-le-position ok (min a b) (max a b) (root-ends a b e) in
       rw (chain-walk n overlaps a b d r) (walk-best ok (min a b) (max a b) (apart a b d) (omega arith) r)) (equal-or-not a b)
@@ -161,9 +152,7 @@ module _ {n : ℕ} {overlaps : ℕ → ℕ → Bool} (ok : IntervalOrder n overl
   -- If no chain joins the two, it is empty.
   pub apart-chain-empty : (a b : ℕ) → a < n → b < n → (Joined n overlaps a b → ⊥) → chainOf n overlaps a b ≡ []
   apart-chain-empty a b g l d =
-      let u = min a b in
-      let v = max a b in
-      let differ : a ≡ b → ⊥ = λ e. d (root-joined a b g l (ap (root overlaps) e)) in
+      let u = min a b in let v = max a b in let differ : a ≡ b → ⊥ = λ e. d (root-joined a b g l (ap (root overlaps) e)) in
       ⊎-elim (λ h. chain-none n overlaps a b differ h)
       (λ h. absurd (⊎-elim (λ s. d (walk n overlaps u v, joins-of-later n overlaps a b (walk n overlaps u v) (walk-leads ok u v s (omega arith) h)))
       (λ s. differ (omega arith)) (lt-or-ge u v))) (lt-or-ge v (climb n overlaps u v))

@@ -53,8 +53,7 @@ module _ (n : ℕ) {parent : ℕ → ℕ} (forest : Forest parent) where
 
   earlier-sound : (v c s : ℕ) → Child n parent v c → List·Memᴰ s (earlierSiblings n parent c) → (s < c) × Child n parent v s
   earlier-sound v c s k m =
-      let h = passing-sound (λ s. ltb v s && eqb (parent s) v) 0 c s (rw (earlier-children v c k) at m) in
-      let b : s < c = omega arith in (
+      let h = passing-sound (λ s. ltb v s && eqb (parent s) v) 0 c s (rw (earlier-children v c k) at m) in let b : s < c = omega arith in (
         b,
         record {
           behind = ltb-true v s (and-left (ltb v s) (eqb (parent s) v) (h .2));
@@ -79,8 +78,7 @@ module _ (n : ℕ) {parent : ℕ → ℕ} (forest : Forest parent) where
   -- A window is under one window only of a level.
   pub under-unique : (s c y : ℕ) → Under n parent s y → Under n parent c y → depth parent s ≡ depth parent c → s ≡ c
   under-unique s c y p q e =
-      let i : p .steps ≡ q .steps = omega (arith, p .deeper, q .deeper) in
-      sym (p .up) ∙ (ap (λ k. ancestor parent k y) i ∙ q .up)
+      let i : p .steps ≡ q .steps = omega (arith, p .deeper, q .deeper) in sym (p .up) ∙ (ap (λ k. ancestor parent k y) i ∙ q .up)
 
   not-earlier : (v c y : ℕ) → Child n parent v c → List·Memᴰ y (postOrder n parent c) →
       List·Memᴰ y (flatMap (postOrder n parent) (earlierSiblings n parent c)) → ⊥
@@ -105,8 +103,7 @@ module _ (n : ℕ) {parent : ℕ → ℕ} (forest : Forest parent) where
 
   pub not-below : (v : ℕ) → List·Memᴰ v (flatMap (postOrder n parent) (children n parent v)) → ⊥
   not-below v g =
-      let r = flatMap-sound (postOrder n parent) (children n parent v) v g in
-      let k = children-sound n forest v (r .0) (r .1) in
+      let r = flatMap-sound (postOrder n parent) (children n parent v) v g in let k = children-sound n forest v (r .0) (r .1) in
       omega (arith, k .behind, under-ge n forest (r .0) v (postOrder-sound n forest (r .0) v (k .window) (r .2)))
 
   -- In its own list a window stands last.

@@ -38,8 +38,7 @@ module _ (n : ℕ) (overlaps : ℕ → ℕ → Bool) where
   pub walk-entry : (u v i : ℕ) → i ≤ climb n overlaps u v → getD (walk n overlaps u v) i 0 ≡ ancestor overlaps i v
   unfolding walk
   walk-entry u v i h =
-      let f : ℕ → ℕ = λ i. ancestor overlaps i v in
-      let k = suc (climb n overlaps u v) in
+      let f : ℕ → ℕ = λ i. ancestor overlaps i v in let k = suc (climb n overlaps u v) in
       List·getD-append (table f k) (u ∷ []) 0 i (omega (arith, length-table f k)) ∙ getD-table f k i 0 (omega arith)
 
   -- It begins at v.
@@ -55,10 +54,8 @@ module _ {n : ℕ} {overlaps : ℕ → ℕ → Bool} (ok : IntervalOrder n overl
   -- On the way up to a position at most the last of u there is no root, so each ancestor overlaps the next.
   walk-step : (u v i : ℕ) → climb n overlaps u v ≤ v → i < climb n overlaps u v → overlaps (ancestor overlaps i v) (ancestor overlaps (suc i) v) ≡ true
   walk-step u v i r h =
-      let x = ancestor overlaps i v in
-      let behind : last n overlaps u < x = climb-before n overlaps u v i h in
-      ⊎-elim
-      (λ g. ap (overlaps x) (ancestor-suc (tree overlaps) i v) ∙ (ok .symmetric x (parent overlaps x) ∙ parent-overlaps overlaps x g))
+      let x = ancestor overlaps i v in let behind : last n overlaps u < x = climb-before n overlaps u v i h in
+      ⊎-elim (λ g. ap (overlaps x) (ancestor-suc (tree overlaps) i v) ∙ (ok .symmetric x (parent overlaps x) ∙ parent-overlaps overlaps x g))
       (λ g. let e : parent overlaps x ≡ x = omega (arith, parent-le overlaps x) in
       let s : x ≡ root overlaps v = root-unique (tree overlaps) v i (fixed-root (tree overlaps) x e) in
       absurd (omega (arith, climb-reaches n overlaps u v r, root-le-ancestor (tree overlaps) v (climb n overlaps u v))))
@@ -70,8 +67,7 @@ module _ {n : ℕ} {overlaps : ℕ → ℕ → Bool} (ok : IntervalOrder n overl
       ap (λ z. overlaps z u) (ancestor-zero (tree overlaps) v)
       ∙ (ok .symmetric v u ∙ last-overlap ok u v h (omega (arith, rw e at (climb-reaches n overlaps u v (omega arith)), ancestor-zero (tree overlaps) v)))
   walk-end u v (suc j) h g e r =
-      let x = ancestor overlaps j v in
-      let y = ancestor overlaps (suc j) v in
+      let x = ancestor overlaps j v in let y = ancestor overlaps (suc j) v in
       let up : y ≡ parent overlaps x = ancestor-suc (tree overlaps) j v in
       let reached : y ≤ last n overlaps u = rw e at (climb-reaches n overlaps u v (omega arith)) in
       let behind : last n overlaps u < x = climb-before n overlaps u v j (omega arith) in
@@ -84,8 +80,7 @@ module _ {n : ℕ} {overlaps : ℕ → ℕ → Bool} (ok : IntervalOrder n overl
   pub walk-leads : (u v : ℕ) → u < v → v < n → climb n overlaps u v ≤ v → leads n overlaps v u (walk n overlaps u v) ≡ true
   unfolding walk
   walk-leads u v h g r =
-      let f : ℕ → ℕ = λ i. ancestor overlaps i v in
-      let k = climb n overlaps u v in
+      let f : ℕ → ℕ = λ i. ancestor overlaps i v in let k = climb n overlaps u v in
       leads-intro n overlaps v u (walk n overlaps u v) (chain-snoc n overlaps (table f (suc k)) u
       (chain-table n overlaps f k (λ i b. ancestor-below (tree overlaps) i v g) (λ i b. walk-step u v i r b))
       (ap (λ z. overlaps z u) (last-table f k) ∙ walk-end u v k h g refl r) (omega arith))

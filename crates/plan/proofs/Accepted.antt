@@ -64,6 +64,4 @@ offsets-rise file s u (suc k) h =
 
 -- Offsets do not fall from any window to any later one.
 pub offsets-sorted : (file : List ℕ) → Sound file → (u v : ℕ) → u ≤ v → v < windowCount file → windowAt file u .offset ≤ windowAt file v .offset
-offsets-sorted file s u v le h =
-    let e : u + (v - u) ≡ v = omega arith in
-    rw e at (offsets-rise file s u (v - u) (omega arith))
+offsets-sorted file s u v le h = let e : u + (v - u) ≡ v = omega arith in rw e at (offsets-rise file s u (v - u) (omega arith))

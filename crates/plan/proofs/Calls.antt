@@ -33,8 +33,7 @@ accepted-numbers file plan windows e =
 
 -- So the file is that of an accepted plan.
 pub accepted-plan : (file : List ℕ) (plan windows : ℕ) → Accepted plan windows ≡ validateAnswerOf file → AcceptedPlan file
-accepted-plan file plan windows e =
-    let numbers = accepted-numbers file plan windows e in validated-accepted file (sym e ∙ cc)
+accepted-plan file plan windows e = let numbers = accepted-numbers file plan windows e in validated-accepted file (sym e ∙ cc)
 
 -- The answer of a call that validates first and then asks more, by what the validation answered.
 module _ {A : Type 0} (file : List ℕ) (more : List Question) (refused : Refusal → A) (accepted : A)

@@ -106,8 +106,7 @@ pub overlaps-end : (file : List ℕ) → AcceptedPlan file → (u v : ℕ) → u
     overlaps file u v ≡ ltb (windowAt file v .offset) (endOf (windowAt file u))
 unfolding overlapInOrder boundOf
 overlaps-end file ok u v before within =
-    let e : boundOf (windowAt file u) ≡ endOf (windowAt file u) = omega arith in
-    overlaps-bound file ok u v before within ∙ rw e
+    let e : boundOf (windowAt file u) ≡ endOf (windowAt file u) = omega arith in overlaps-bound file ok u v before within ∙ rw e
 
 -- Windows that touch do not overlap: end of u equal to offset of v is no minute shared.
 pub touching-apart : (file : List ℕ) (u v : ℕ) → endOf (windowAt file u) ≡ windowAt file v .offset → overlaps file u v ≡ false

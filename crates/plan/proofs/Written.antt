@@ -67,8 +67,7 @@ module _ (plan : ℕ) (windows : List Window) where
   window-fileOf v d h =
       let header = headerBytes plan (length windows) in
       let place : windowPlace v ≡ length header + windowLength * v = omega (arith, length-headerBytes plan (length windows)) in
-      let part : List ℕ → List ℕ = take windowLength in
-      ap windowOf (ap (λ i. part (drop i (header ++ flatMap windowBytes windows))) place
+      let part : List ℕ → List ℕ = take windowLength in ap windowOf (ap (λ i. part (drop i (header ++ flatMap windowBytes windows))) place
       ∙ (ap part (drop-append-add header (flatMap windowBytes windows) (windowLength * v))
       ∙ rw append-nil at (record-part windowBytes windowLength length-windowBytes windows v d [] h)))
       ∙ windowOf-windowBytes (getD windows v d)
@@ -83,8 +82,7 @@ window-more : (file : List ℕ) (v : ℕ) (w : Window) (later : List Window) →
     (allYes (windowsAsked file v) && windowsPass (offsetBefore file (suc v)) later)
     ≡ (allYes (windowQuestions (offsetBefore file v) w) && windowsPass (w .offset) later)
 unfolding offsetBefore
-window-more file v w later here =
-    let next : offsetBefore file (suc v) ≡ w .offset = ap (λ (x : Window). x .offset) here in rw (next, here)
+window-more file v w later here = let next : offsetBefore file (suc v) ≡ w .offset = ap (λ (x : Window). x .offset) here in rw (next, here)
 
 -- The questions of a file's windows from v on, where they are those of a list.
 windows-asked : (file : List ℕ) (v : ℕ) (windows : List Window) (d : Window) → ((i : ℕ) → i < length windows → windowAt file (v + i) ≡ getD windows i d) →
@@ -92,8 +90,7 @@ windows-asked : (file : List ℕ) (v : ℕ) (windows : List Window) (d : Window)
 unfolding windowsPass each allYes
 windows-asked file v [] d reads = refl
 windows-asked file v (w ∷ later) d reads =
-    let stay : v + 0 ≡ v = omega arith in
-    let here : windowAt file v ≡ w = rw stay at (reads 0 (omega arith)) in
+    let stay : v + 0 ≡ v = omega arith in let here : windowAt file v ≡ w = rw stay at (reads 0 (omega arith)) in
     let rest = windows-asked file (suc v) later d (λ i h. let on : suc v + i ≡ v + suc i = omega arith in rw on (reads (suc i) (omega arith))) in
     all-append (about v (windowsAsked file v)) (each (windowsAsked file) (suc v) (length later))
     ∙ rw (all-about v (windowsAsked file v), rest) (window-more file v w later here)
@@ -110,8 +107,7 @@ pub accepted-fileOf : (plan : ℕ) (windows : List Window) (d : Window) →
     allYes (planQuestions (fileOf plan windows)) ≡ (leb (length windows) greatestCount && windowsPass 0 windows)
 unfolding planQuestions offsetBefore
 accepted-fileOf plan windows d =
-    let file = fileOf plan windows in
-    all-append (fileQuestions file) (each (windowsAsked file) 0 (windowCount file))
+    let file = fileOf plan windows in all-append (fileQuestions file) (each (windowsAsked file) 0 (windowCount file))
     ∙ rw (file-asked file (length windows) (count-fileOf plan windows) (length-fileOf plan windows), count-fileOf plan windows)
     (ap (λ t. leb (length windows) greatestCount && t)
     (windows-asked file 0 windows d (λ i h. let e : 0 + i ≡ i = omega arith in rw e (window-fileOf plan windows i d h))))

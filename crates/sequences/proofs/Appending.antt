@@ -26,8 +26,7 @@ module _ {A : Type 0} where
   pub written-more : (before now new : List A) (at : ℕ) (x : A) → at ≡ length new → at < length before → Written before now new →
       Written before (set now at x) (new ++ (x ∷ []))
   unfolding overwritten
-  written-more before now new at x e room s =
-      record { written = rw (s .written, ← e) stored; long = length-set now at x ∙ s .long }
+  written-more before now new at x e room s = record { written = rw (s .written, ← e) stored; long = length-set now at x ∙ s .long }
     where
       stored : set (new ++ drop at before) at x ≡ (new ++ (x ∷ [])) ++ drop (length (new ++ (x ∷ []))) before
       stored =
@@ -39,8 +38,7 @@ module _ (p : ℕ → Bool) (v : ℕ) where
   pub passing-more : p v ≡ true → passing p 0 (v + 1) ≡ passing p 0 v ++ (v ∷ [])
   unfolding passing
   passing-more t =
-      let e : 0 + v ≡ v = omega arith in
-      passing-add p 0 v 1 ∙ rw e (ap (λ (l : List ℕ). passing p 0 v ++ l) (passing-true p v 0 t))
+      let e : 0 + v ≡ v = omega arith in passing-add p 0 v 1 ∙ rw e (ap (λ (l : List ℕ). passing p 0 v ++ l) (passing-true p v 0 t))
 
   -- and one that does not leaves it as it is.
   pub passing-kept : p v ≡ false → passing p 0 (v + 1) ≡ passing p 0 v

@@ -36,8 +36,7 @@ unfolding flatMap
 flatMap-cong f g [] e = refl
 flatMap-cong f g (x ∷ l) e =
     let here : f x ≡ g x = e x (List·Memᴰ·head refl) in
-    let there : flatMap f l ≡ flatMap g l = flatMap-cong f g l (λ y h. e y (List·Memᴰ·tail h)) in
-    rw (here, there)
+    let there : flatMap f l ≡ flatMap g l = flatMap-cong f g l (λ y h. e y (List·Memᴰ·tail h)) in rw (here, there)
 
 -- Its length is the sum of the lengths.
 pub length-flatMap : (f : ℕ → List ℕ) (l : List ℕ) → length (flatMap f l) ≡ total (λ x. length (f x)) l

@@ -66,8 +66,7 @@ module _ (R : ℕ → ℕ → Type 0) where
     pub pairwise-count : (l : List ℕ) (n : ℕ) → Pairwise R l → ((x : ℕ) → List·Memᴰ x l → x < n) → count (λ k. ltb (indexOf k l) (length l)) n ≡ length l
     unfolding count
     pairwise-count [] n p b =
-        let e : n ≡ 0 + n = omega arith in
-        ap (count (λ k. ltb (indexOf k []) 0)) e
+        let e : n ≡ 0 + n = omega arith in ap (count (λ k. ltb (indexOf k []) 0)) e
         ∙ count-none (λ k. ltb (indexOf k []) 0) 0 n (λ i h g. le-ltb (indexOf i []) 0 (omega arith))
     pairwise-count (z ∷ l) n p b =
         count-insert (λ k. ltb (indexOf k l) (length l)) (λ k. ltb (indexOf k (z ∷ l)) (length (z ∷ l))) z n (b z (List·Memᴰ·head refl))

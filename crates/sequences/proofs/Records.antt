@@ -33,8 +33,7 @@ module _ {A B : Type 0} (f : A → List B) (width : ℕ) (wide : (x : A) → len
   unfolding overwritten table flatMap
   records-turn g v before =
       let long : length (flatMap f (table g v)) ≡ width * v = length-records (table g v) ∙ rw (length-table g v) in
-      let done = flatMap f (table g v) in
-      rw (
+      let done = flatMap f (table g v) in rw (
         flatMap-append f (table g v) (g v ∷ []),
         append-nil (f (g v)),
         take-at done (drop (length done) before) (width * v) long,
