@@ -2,19 +2,13 @@
 -- Vocabulary: depth, component, rank.
 -- Assumes nothing.
 use Prim.Native.Nat.{ℕ, zero, suc, _<_}
-use mathlib.Core.Bool.{_&&_}
-use mathlib.Core.Path.{_≡_, refl, ap, _∙_}
-use mathlib.Core.List.{List, [], _∷_, _++_, flatMap}
+use mathlib.Core.{Bool._&&_, Path._≡_, Path.refl, Path.ap, Path._∙_, List.List, List.[], List._∷_, List._++_, List.flatMap}
 use native.Mathlib.Omega.{arith}
 use lib.Dec.{ltb, eqb}
-use Rattle.sequences.specs.Search.{count}
-use Rattle.sequences.specs.Lists.{indexOf}
-use Rattle.sequences.proofs.Search.{least-cong, count-cong}
-use Rattle.sequences.proofs.Passing.{passing-cong}
-use Rattle.sequences.proofs.FlatMap.{flatMap-cong}
+use Rattle.sequences.specs.{Search.count, Lists.indexOf}
+use Rattle.sequences.proofs.{Search.least-cong, Search.count-cong, Passing.passing-cong, FlatMap.flatMap-cong}
 use Rattle.interval_graph.specs.Forest.{isRoot, ancestor, depth, root, component, children, postOrderTo, postOrder, rank, Forest}
-use Rattle.interval_graph.proofs.Ancestor.{ancestor-below}
-use Rattle.interval_graph.proofs.Depth.{root-le}
+use Rattle.interval_graph.proofs.{Ancestor.ancestor-below, Depth.root-le}
 
 module _ {n : ℕ} {first second : ℕ → ℕ} (later : Forest second) (same : (v : ℕ) → v < n → first v ≡ second v) where
   -- Whether a window is a root depends on the parents of windows only.

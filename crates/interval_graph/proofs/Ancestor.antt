@@ -27,9 +27,7 @@ module _ {parent : ℕ → ℕ} (forest : Forest parent) where
   pub ancestor-add : (i j v : ℕ) → ancestor parent (i + j) v ≡ ancestor parent i (ancestor parent j v)
   unfolding ancestor
   ancestor-add zero j v = let e : zero + j ≡ j = omega arith in rw e
-  ancestor-add (suc i) j v =
-      let e : suc i + j ≡ suc (i + j) = omega arith in
-      rw e (ap parent (ancestor-add i j v))
+  ancestor-add (suc i) j v = let e : suc i + j ≡ suc (i + j) = omega arith in rw e (ap parent (ancestor-add i j v))
 
   -- An ancestor is at most the window.
   pub ancestor-le : (i v : ℕ) → ancestor parent i v ≤ v
@@ -40,8 +38,7 @@ module _ {parent : ℕ → ℕ} (forest : Forest parent) where
   -- More steps do not rise.
   pub ancestor-antitone : (i j v : ℕ) → i ≤ j → ancestor parent j v ≤ ancestor parent i v
   ancestor-antitone i j v h =
-      let e : j ≡ (j - i) + i = omega arith in
-      rw (e, ancestor-add (j - i) i v) (ancestor-le (j - i) (ancestor parent i v))
+      let e : j ≡ (j - i) + i = omega arith in rw (e, ancestor-add (j - i) i v) (ancestor-le (j - i) (ancestor parent i v))
 
   -- An ancestor of a window is a window.
   pub ancestor-below : {n : ℕ} (i v : ℕ) → v < n → ancestor parent i v < n

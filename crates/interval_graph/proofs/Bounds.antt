@@ -3,25 +3,18 @@
 -- Vocabulary: component, depth, rank, lastRank, LeastHandovers.
 -- Assumes nothing.
 use Prim.Native.Nat.{ℕ, zero, suc, _-_, _≤_, _<_}
-use mathlib.Core.Bool.{Bool}
-use mathlib.Core.Path.{_≡_, refl, sym, ap, _∙_}
-use mathlib.Core.Logic.{⊎-elim}
+use mathlib.Core.{Bool.Bool, Path._≡_, Path.refl, Path.sym, Path.ap, Path._∙_, Logic.⊎-elim}
 use native.Mathlib.Omega.{arith}
 use Rattle.sequences.proofs.Tests.{lt-or-ge}
-use Rattle.interval_graph.specs.Order.{IntervalOrder}
-use Rattle.interval_graph.specs.Chain.{handovers, LeastHandovers}
+use Rattle.interval_graph.specs.{Order.IntervalOrder, Chain.handovers, Chain.LeastHandovers}
 use Rattle.interval_graph.specs.Tree.{last, parent, ancestor, depth, root, component, rank, lastRank}
 use Rattle.interval_graph.specs.Walk.{climb, chainOf}
-use Rattle.interval_graph.proofs.Last.{last-ge, last-below}
-use Rattle.interval_graph.proofs.Parent.{parent-last, tree}
+use Rattle.interval_graph.proofs.{Last.last-ge, Last.last-below, Parent.parent-last, Parent.tree}
 use Rattle.interval_graph.proofs.Ancestor.{ancestor-suc, ancestor-below}
 use Rattle.interval_graph.proofs.Depth.{depth-le, root-le, ancestor-sum, ancestor-past}
-use Rattle.interval_graph.proofs.Chains.{handovers-alone, least-handovers-joined}
-use Rattle.interval_graph.proofs.Climb.{climb-before, climb-le-depth}
+use Rattle.interval_graph.proofs.{Chains.handovers-alone, Chains.least-handovers-joined, Climb.climb-before, Climb.climb-le-depth}
 use Rattle.interval_graph.proofs.ShortestChain.{chain-same, chain-symmetric, joined-root, least-is-chain}
-use Rattle.interval_graph.proofs.Rank.{rank-lt}
-use Rattle.interval_graph.proofs.Rule.{chain-handovers}
-use Rattle.interval_graph.proofs.Component.{component-le}
+use Rattle.interval_graph.proofs.{Rank.rank-lt, Rule.chain-handovers, Component.component-le}
 
 module _ {n : ℕ} {overlaps : ℕ → ℕ → Bool} (ok : IntervalOrder n overlaps) where
   -- The rank of its last is below the number of windows.
@@ -34,7 +27,8 @@ module _ {n : ℕ} {overlaps : ℕ → ℕ → Bool} (ok : IntervalOrder n overl
   numbers-small v h = omega (arith, component-le (tree overlaps) v, depth-le (tree overlaps) v, rank-lt n (tree overlaps) v h, lastRank-lt v h)
 
   -- What bounds the steps up from the later of two windows, and one more, bounds a least number of handovers.
-  pub least-le : (a b k m : ℕ) → a < n → b < n → LeastHandovers n overlaps a b k → (a < b → climb n overlaps a b < m) → (b < a → climb n overlaps b a < m) → k ≤ m
+  pub least-le : (a b k m : ℕ) → a < n → b < n → LeastHandovers n overlaps a b k → (a < b → climb n overlaps a b < m) →
+      (b < a → climb n overlaps b a < m) → k ≤ m
   least-le a b k m g l p s t =
       let e : root overlaps a ≡ root overlaps b = joined-root ok a b (least-handovers-joined n overlaps a b k p) in
       let c : k ≡ handovers (chainOf n overlaps a b) = least-is-chain ok a b k g l p in
@@ -49,8 +43,8 @@ module _ {n : ℕ} {overlaps : ℕ → ℕ → Bool} (ok : IntervalOrder n overl
       by-depth : (d : ℕ) → depth overlaps v ≡ d → climb n overlaps u v < v
       by-depth zero s = omega (arith, climb-le-depth ok u v e)
       by-depth (suc d) s =
-          let x = ancestor overlaps d v in
-          let top : parent overlaps x ≡ root overlaps u = sym (ancestor-suc (tree overlaps) d v) ∙ (ancestor-past (tree overlaps) v (suc d) (omega arith) ∙ sym e) in
+          let x = ancestor overlaps d v in let past = ancestor-past (tree overlaps) v (suc d) (omega arith) in
+          let top : parent overlaps x ≡ root overlaps u = sym (ancestor-suc (tree overlaps) d v) ∙ (past ∙ sym e) in
           let covers : x ≤ last n overlaps (root overlaps u) = rw top at (parent-last ok x (ancestor-below (tree overlaps) d v g)) in
           ⊎-elim (λ l. omega (arith, depth-le (tree overlaps) v))
           (λ l. let behind : last n overlaps u < x = climb-before n overlaps u v d (omega arith) in

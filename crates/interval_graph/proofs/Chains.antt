@@ -3,13 +3,10 @@
 -- Vocabulary: isChain, leads, joins, handovers, firstEntry, lastEntry, fromLater, LeastHandovers, Shortest.
 -- Assumes nothing.
 use Prim.Native.Nat.{ℕ, zero, suc, _-_, _≤_, _<_, min, max}
-use mathlib.Core.Bool.{Bool, true, cond, _&&_}
-use mathlib.Core.Path.{_≡_, refl, sym, ap, _∙_}
-use mathlib.Core.Logic.{_⊎_, ⊎-elim}
+use mathlib.Core.{Bool.Bool, Bool.true, Bool.cond, Bool._&&_, Path._≡_, Path.refl, Path.sym, Path.ap, Path._∙_, Logic._⊎_, Logic.⊎-elim}
 use mathlib.Core.List.{List, [], _∷_, _++_, reverse, reverse-cons, reverse-reverse}
 use native.Mathlib.Omega.{arith}
-use lib.Dec.{ltb, eqb}
-use lib.ListN.{getD, length-reverse}
+use lib.{Dec.ltb, Dec.eqb, ListN.getD, ListN.length-reverse}
 use borrow.Author.Tests.{ltb-true, lt-ltb, eqb-true, eqb-false, eq-eqb}
 use Rattle.sequences.specs.Table.{table}
 use Rattle.sequences.proofs.Tests.{cond-cases, and-left, and-right, and-intro, or-cases, or-left, or-right, true-false-absurd}
@@ -112,7 +109,8 @@ module _ (n : ℕ) (overlaps : ℕ → ℕ → Bool) where
       chain-cons x z (l ++ (y ∷ [])) (chain-head x (z ∷ l) c) (chain-overlap x z l c) (chain-snoc (z ∷ l) y (chain-tail x z l c) t h)
 
   -- A table of windows of which each overlaps the next is a chain.
-  pub chain-table : (f : ℕ → ℕ) (k : ℕ) → ((i : ℕ) → i ≤ k → f i < n) → ((i : ℕ) → i < k → overlaps (f i) (f (suc i)) ≡ true) → isChain n overlaps (table f (suc k)) ≡ true
+  pub chain-table : (f : ℕ → ℕ) (k : ℕ) → ((i : ℕ) → i ≤ k → f i < n) → ((i : ℕ) → i < k → overlaps (f i) (f (suc i)) ≡ true) →
+      isChain n overlaps (table f (suc k)) ≡ true
   unfolding table
   chain-table f zero b t = chain-alone (f zero) (b zero (omega arith))
   chain-table f (suc k) b t =
@@ -190,7 +188,7 @@ module _ (n : ℕ) (overlaps : ℕ → ℕ → Bool) (symmetric : (u v : ℕ) �
   chain-reverse [] c = c
   chain-reverse (x ∷ []) c = c
   chain-reverse (x ∷ (y ∷ l)) c =
-      let t : overlaps (lastEntry (reverse (y ∷ l))) x ≡ true = ap (λ z. overlaps z x) (last-reverse (y ∷ l)) ∙ (symmetric y x ∙ chain-overlap n overlaps x y l c) in
+      let t = ap (λ (z : ℕ). overlaps z x) (last-reverse (y ∷ l)) ∙ (symmetric y x ∙ chain-overlap n overlaps x y l c) in
       ap (isChain n overlaps) (reverse-cons x (y ∷ l))
       ∙ chain-snoc n overlaps (reverse (y ∷ l)) x (chain-reverse (y ∷ l) (chain-tail n overlaps x y l c)) t (chain-head n overlaps x (y ∷ l) c)
 
@@ -207,7 +205,8 @@ module _ (n : ℕ) (overlaps : ℕ → ℕ → Bool) (symmetric : (u v : ℕ) �
       ⊎-elim (λ s. turned a b s (λ e. omega arith) (λ e. omega arith) (λ e. omega arith))
       (λ s. turned b a s (λ e. omega arith) (λ e. omega arith) (λ e. omega arith)) (joins-cases n overlaps a b l t)
     where
-      turned : (x y : ℕ) → leads n overlaps x y l ≡ true → (x ≡ max a b → y ≡ min a b) → ((x ≡ max a b → ⊥) → y ≡ max a b) → ((x ≡ max a b → ⊥) → x ≡ min a b) → leads n overlaps (max a b) (min a b) (cond (eqb (firstEntry l) (max a b)) l (reverse l)) ≡ true
+      turned : (x y : ℕ) → leads n overlaps x y l ≡ true → (x ≡ max a b → y ≡ min a b) → ((x ≡ max a b → ⊥) → y ≡ max a b) →
+          ((x ≡ max a b → ⊥) → x ≡ min a b) → leads n overlaps (max a b) (min a b) (cond (eqb (firstEntry l) (max a b)) l (reverse l)) ≡ true
       turned x y s f g h =
           let first : firstEntry l ≡ x = leads-first n overlaps x y l s in
           cond-cases (λ m. leads n overlaps (max a b) (min a b) m ≡ true) (eqb (firstEntry l) (max a b))

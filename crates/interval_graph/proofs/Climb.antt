@@ -3,25 +3,16 @@
 -- Vocabulary: climb, ancestor, last.
 -- Assumes nothing.
 use Prim.Native.Nat.{ℕ, zero, suc, _≤_, _<_}
-use mathlib.Core.Bool.{Bool, true}
-use mathlib.Core.Path.{_≡_, refl, sym, ap, _∙_}
-use mathlib.Core.Logic.{⊎-elim}
-use mathlib.Core.List.{List, [], _∷_}
+use mathlib.Core.{Bool.Bool, Bool.true, Path._≡_, Path.refl, Path.sym, Path.ap, Path._∙_, Logic.⊎-elim, List.List, List.[], List._∷_}
 use native.Mathlib.Omega.{arith}
-use lib.Dec.{leb}
-use lib.ListN.{length, getD}
+use lib.{Dec.leb, ListN.length, ListN.getD}
 use borrow.Author.Tests.{leb-true, leb-false, le-leb}
-use Rattle.sequences.proofs.Tests.{lt-or-ge}
-use Rattle.sequences.proofs.Search.{least-holds, least-before, least-minimal}
-use Rattle.interval_graph.specs.Order.{IntervalOrder}
-use Rattle.interval_graph.specs.Chain.{lastEntry, isChain}
-use Rattle.interval_graph.specs.Tree.{last, parent, ancestor, depth, root}
-use Rattle.interval_graph.specs.Walk.{climb}
-use Rattle.interval_graph.proofs.Last.{last-ge, neighbour-le-last}
-use Rattle.interval_graph.proofs.Parent.{parent-least, tree}
+use Rattle.sequences.proofs.{Tests.lt-or-ge, Search.least-holds, Search.least-before, Search.least-minimal}
+use Rattle.interval_graph.specs.{Order.IntervalOrder, Chain.lastEntry, Chain.isChain}
+use Rattle.interval_graph.specs.{Tree.last, Tree.parent, Tree.ancestor, Tree.depth, Tree.root, Walk.climb}
+use Rattle.interval_graph.proofs.{Last.last-ge, Last.neighbour-le-last, Parent.parent-least, Parent.tree}
 use Rattle.interval_graph.proofs.Ancestor.{ancestor-zero, ancestor-parent, ancestor-antitone}
-use Rattle.interval_graph.proofs.Monotone.{overlap-root}
-use Rattle.interval_graph.proofs.Depth.{root-le, depth-le, ancestor-past}
+use Rattle.interval_graph.proofs.{Monotone.overlap-root, Depth.root-le, Depth.depth-le, Depth.ancestor-past}
 use Rattle.interval_graph.proofs.Chains.{chain-head, chain-overlap, chain-tail}
 
 -- climb, of any overlap test
@@ -76,7 +67,8 @@ module _ {n : ℕ} {overlaps : ℕ → ℕ → Bool} (ok : IntervalOrder n overl
       omega (arith, ancestor-parent (tree overlaps) i w, ancestor-le-chain l y (parent overlaps w) i (chain-tail n overlaps x y l c) p (omega arith))
 
   -- And one step less than its handovers leads to a position at most the last of its last entry.
-  pub chain-climbs : (l : List ℕ) (x y w u : ℕ) → isChain n overlaps (x ∷ (y ∷ l)) ≡ true → lastEntry (x ∷ (y ∷ l)) ≡ u → w ≤ x → ancestor overlaps (length l) w ≤ last n overlaps u
+  pub chain-climbs : (l : List ℕ) (x y w u : ℕ) → isChain n overlaps (x ∷ (y ∷ l)) ≡ true → lastEntry (x ∷ (y ∷ l)) ≡ u → w ≤ x →
+      ancestor overlaps (length l) w ≤ last n overlaps u
   unfolding lastEntry
   chain-climbs [] x y w u c e h =
       let t : overlaps u x ≡ true = ap (λ z. overlaps z x) (sym e) ∙ (ok .symmetric y x ∙ chain-overlap n overlaps x y [] c) in

@@ -2,11 +2,9 @@
 -- Vocabulary: component, root, isRoot.
 -- Assumes nothing.
 use Prim.Native.Nat.{ℕ, suc, _+_, _-_, _≤_, _<_}
-use mathlib.Core.Path.{_≡_, ap}
-use mathlib.Core.Logic.{⊎-elim}
+use mathlib.Core.{Path._≡_, Path.ap, Logic.⊎-elim}
 use native.Mathlib.Omega.{arith}
-use Rattle.sequences.specs.Search.{count}
-use Rattle.sequences.proofs.Tests.{lt-or-ge}
+use Rattle.sequences.{specs.Search.count, proofs.Tests.lt-or-ge}
 use Rattle.sequences.proofs.Search.{count-true, count-monotone, count-le}
 use Rattle.interval_graph.specs.Forest.{isRoot, root, component, Forest}
 use Rattle.interval_graph.proofs.Depth.{root-is-root, root-le}
@@ -21,8 +19,8 @@ module _ {parent : ℕ → ℕ} (forest : Forest parent) where
   pub component-rises : (u v : ℕ) → root parent u < root parent v → component parent u < component parent v
   unfolding component
   component-rises u v h =
-      let e : root parent v ≡ suc (root parent u) + (root parent v - suc (root parent u)) = omega arith in
-      omega (arith, count-true (isRoot parent) (root parent u) (root-is-root forest u), count-monotone (isRoot parent) (suc (root parent u)) (root parent v - suc (root parent u)), ap (count (isRoot parent)) e)
+      let r = root parent u in let k = root parent v - suc r in let e : root parent v ≡ suc r + k = omega arith in
+      let p = isRoot parent in omega (arith, count-true p r (root-is-root forest u), count-monotone p (suc r) k, ap (count p) e)
 
   -- Windows of one component have one root.
   pub component-root : (u v : ℕ) → component parent u ≡ component parent v → root parent u ≡ root parent v
@@ -34,9 +32,7 @@ module _ {parent : ℕ → ℕ} (forest : Forest parent) where
   -- Position 0 is in component 0.
   pub component-first : component parent 0 ≡ 0
   unfolding component count
-  component-first =
-      let e : root parent 0 ≡ 0 = omega (arith, root-le forest 0) in
-      rw e
+  component-first = let e : root parent 0 ≡ 0 = omega (arith, root-le forest 0) in rw e
 
   -- The component of a window is at most its position.
   pub component-le : (v : ℕ) → component parent v ≤ v

@@ -2,13 +2,10 @@
 -- Vocabulary: isRoot, depth, root.
 -- Assumes nothing.
 use Prim.Native.Nat.{ℕ, zero, suc, _+_, _-_, _≤_, _<_}
-use mathlib.Core.Bool.{true, false}
-use mathlib.Core.Path.{_≡_, refl, sym, ap, _∙_}
-use mathlib.Core.Logic.{⊎-elim}
+use mathlib.Core.{Bool.true, Bool.false, Path._≡_, Path.refl, Path.sym, Path.ap, Path._∙_, Logic.⊎-elim}
 use native.Mathlib.Omega.{arith}
 use borrow.Author.Tests.{eqb-true, eqb-false, eq-eqb, ne-eqb}
-use Rattle.sequences.proofs.Tests.{lt-or-ge}
-use Rattle.sequences.proofs.Search.{least-le, least-holds, least-before, least-minimal}
+use Rattle.sequences.proofs.{Tests.lt-or-ge, Search.least-le, Search.least-holds, Search.least-before, Search.least-minimal}
 use Rattle.interval_graph.specs.Forest.{isRoot, ancestor, depth, root, Forest}
 use Rattle.interval_graph.proofs.Ancestor.{ancestor-zero, ancestor-parent, ancestor-add, ancestor-le, ancestor-antitone}
 
@@ -31,8 +28,7 @@ module _ {parent : ℕ → ℕ} (forest : Forest parent) where
   -- What is no root has its parent before it.
   pub not-root-below : (v : ℕ) → isRoot parent v ≡ false → parent v < v
   unfolding isRoot
-  not-root-below v t =
-      ⊎-elim (λ h. h) (λ h. absurd (eqb-false (parent v) v t (omega (arith, forest .parent-le v)))) (lt-or-ge (parent v) v)
+  not-root-below v t = ⊎-elim (λ h. h) (λ h. absurd (eqb-false (parent v) v t (omega (arith, forest .parent-le v)))) (lt-or-ge (parent v) v)
 
   -- Steps that meet no root lower the position by as many, at least.
   pub ancestor-falls : (i v : ℕ) → ((j : ℕ) → j < i → isRoot parent (ancestor parent j v) ≡ false) → ancestor parent i v + i ≤ v
@@ -65,9 +61,9 @@ module _ {parent : ℕ → ℕ} (forest : Forest parent) where
   unfolding root depth
   root-is-root v =
       ⊎-elim (λ h. least-holds (λ i. isRoot parent (ancestor parent i v)) v h)
-      (λ h. let d : depth parent v ≡ v = omega (arith, depth-le v) in
-      let z : parent (ancestor parent (depth parent v) v) ≡ ancestor parent (depth parent v) v = omega (arith, ancestor-sum (depth parent v) v (omega arith), forest .parent-le (ancestor parent (depth parent v) v)) in
-      fixed-root _ z) (lt-or-ge (depth parent v) v)
+      (λ h. let d : depth parent v ≡ v = omega (arith, depth-le v) in let r = ancestor parent (depth parent v) v in
+      let z : parent r ≡ r = omega (arith, ancestor-sum (depth parent v) v (omega arith), forest .parent-le r) in fixed-root r z)
+      (lt-or-ge (depth parent v) v)
 
   -- The root is its own parent.
   pub root-parent : (v : ℕ) → parent (root parent v) ≡ root parent v
@@ -115,8 +111,9 @@ module _ {parent : ℕ → ℕ} (forest : Forest parent) where
   -- A window and its parent have one root.
   pub root-of-parent : (v : ℕ) → root parent (parent v) ≡ root parent v
   root-of-parent v =
-      let up : ancestor parent (depth parent v) (parent v) ≡ root parent v = ancestor-parent forest (depth parent v) v ∙ ancestor-past v (suc (depth parent v)) (omega arith) in
-      sym (root-unique (parent v) (depth parent v) (rw up (root-is-root v))) ∙ up
+      let d = depth parent v in
+      let up : ancestor parent d (parent v) ≡ root parent v = ancestor-parent forest d v ∙ ancestor-past v (suc d) (omega arith) in
+      sym (root-unique (parent v) d (rw up (root-is-root v))) ∙ up
 
   -- A window and its ancestors have one root.
   pub root-of-ancestor : (i v : ℕ) → root parent (ancestor parent i v) ≡ root parent v

@@ -3,20 +3,18 @@
 -- Vocabulary: last.
 -- Assumes nothing.
 use Prim.Native.Nat.{ℕ, _≤_, _<_}
-use mathlib.Core.Bool.{Bool, true, _&&_}
-use mathlib.Core.Path.{_≡_}
-use mathlib.Core.Logic.{_⊎_, inl, inr, ⊎-elim, _↔_}
+use mathlib.Core.{Bool.Bool, Bool.true, Bool._&&_, Path._≡_, Logic._⊎_, Logic.inl, Logic.inr, Logic.⊎-elim, Logic._↔_}
 use native.Mathlib.Omega.{arith}
 use lib.Dec.{ltb}
 use borrow.Author.Tests.{ltb-true, lt-ltb}
 use Rattle.sequences.specs.Search.{greatest}
 use Rattle.sequences.proofs.Tests.{lt-or-ge, and-left, and-right, and-intro, true-false-absurd}
 use Rattle.sequences.proofs.Search.{greatest-ge, greatest-cases}
-use Rattle.interval_graph.specs.Order.{IntervalOrder}
-use Rattle.interval_graph.specs.Tree.{last}
+use Rattle.interval_graph.specs.{Order.IntervalOrder, Tree.last}
 
 -- Either the last of u overlaps u and lies behind it, below n, or it is u.
-pub last-cases : (n : ℕ) (overlaps : ℕ → ℕ → Bool) (u : ℕ) → ((u < last n overlaps u) × (last n overlaps u < n) × (overlaps u (last n overlaps u) ≡ true)) ⊎ (last n overlaps u ≡ u)
+pub last-cases : (n : ℕ) (overlaps : ℕ → ℕ → Bool) (u : ℕ) →
+    ((u < last n overlaps u) × (last n overlaps u < n) × (overlaps u (last n overlaps u) ≡ true)) ⊎ (last n overlaps u ≡ u)
 unfolding last
 last-cases n overlaps u =
     let z = greatest (λ w. ltb u w && overlaps u w) n u in

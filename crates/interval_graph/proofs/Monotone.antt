@@ -3,18 +3,16 @@
 -- Vocabulary: ancestor, root, depth, component, last.
 -- Assumes nothing.
 use Prim.Native.Nat.{ℕ, zero, suc, _+_, _-_, _≤_, _<_}
-use mathlib.Core.Bool.{Bool, true, false}
-use mathlib.Core.Path.{_≡_, sym, _∙_}
-use mathlib.Core.Logic.{_⊎_, inl, inr, ⊎-elim}
+use mathlib.Core.{Bool.Bool, Bool.true, Bool.false, Path._≡_, Path.sym, Path._∙_, Logic._⊎_, Logic.inl, Logic.inr, Logic.⊎-elim}
 use native.Mathlib.Omega.{arith}
 use Rattle.sequences.specs.Search.{count}
-use Rattle.sequences.proofs.Tests.{lt-or-ge, truth}
-use Rattle.sequences.proofs.Search.{count-true, count-false, count-none}
+use Rattle.sequences.proofs.{Tests.lt-or-ge, Tests.truth, Search.count-true, Search.count-false, Search.count-none}
 use Rattle.interval_graph.specs.Order.{IntervalOrder}
 use Rattle.interval_graph.specs.Tree.{last, parent, isRoot, ancestor, depth, root, component}
 use Rattle.interval_graph.specs.Forest as Forest
 use Rattle.interval_graph.proofs.Ancestor.{ancestor-below}
-use Rattle.interval_graph.proofs.Depth.{ancestor-past, depth-minimal, depth-step, fixed-depth, fixed-is-root, root-fixed, root-is-root, root-le, root-le-ancestor, root-of-parent}
+use Rattle.interval_graph.proofs.Depth.{ancestor-past, depth-minimal, depth-step, fixed-depth, fixed-is-root, root-fixed}
+use Rattle.interval_graph.proofs.Depth.{root-is-root, root-le, root-le-ancestor, root-of-parent}
 use Rattle.interval_graph.proofs.Component.{component-rises, root-component}
 use Rattle.interval_graph.proofs.Last.{last-below, last-ge, neighbour-le-last, overlap-last}
 use Rattle.interval_graph.proofs.Parent.{parent-le, parent-least, parent-monotone, tree}
@@ -37,8 +35,8 @@ module _ {n : ℕ} {overlaps : ℕ → ℕ → Bool} (ok : IntervalOrder n overl
   -- Level order: in one component a later window is at least as deep.
   pub depth-monotone : (u v : ℕ) → u ≤ v → v < n → root overlaps u ≡ root overlaps v → depth overlaps u ≤ depth overlaps v
   depth-monotone u v h g e =
-      let k = depth overlaps v in
-      let up : ancestor overlaps k u ≡ root overlaps u = omega (arith, root-le-ancestor (tree overlaps) u k, ancestor-monotone k u v h g, ancestor-past (tree overlaps) v k (omega arith)) in
+      let k = depth overlaps v in let past = ancestor-past (tree overlaps) v k (omega arith) in
+      let up : ancestor overlaps k u ≡ root overlaps u = omega (arith, root-le-ancestor (tree overlaps) u k, ancestor-monotone k u v h g, past) in
       depth-minimal (tree overlaps) u k (rw up (root-is-root (tree overlaps) u))
 
   -- In one component the less deep of two windows is the earlier.
@@ -63,7 +61,7 @@ module _ {n : ℕ} {overlaps : ℕ → ℕ → Bool} (ok : IntervalOrder n overl
   pub last-depth-le : (u : ℕ) → u < n → depth overlaps (last n overlaps u) ≤ suc (depth overlaps u)
   last-depth-le u g =
       let z = last n overlaps u in
-      let up : depth overlaps (parent overlaps z) ≤ depth overlaps u = depth-monotone (parent overlaps z) u (parent-least ok z u (omega arith)) g (root-of-parent (tree overlaps) z ∙ last-root u g) in
+      let up = depth-monotone (parent overlaps z) u (parent-least ok z u (omega arith)) g (root-of-parent (tree overlaps) z ∙ last-root u g) in
       ⊎-elim (λ h. omega (arith, depth-step (tree overlaps) z h))
       (λ h. omega (arith, fixed-depth (tree overlaps) z (omega (arith, parent-le overlaps z)))) (lt-or-ge (parent overlaps z) z)
 
@@ -77,8 +75,7 @@ module _ {n : ℕ} {overlaps : ℕ → ℕ → Bool} (ok : IntervalOrder n overl
   pub component-roots : (v : ℕ) → v < n → count (isRoot overlaps) (suc v) ≡ suc (component overlaps v)
   unfolding Forest.component
   component-roots v g =
-      let r = root overlaps v in
-      let e : suc v ≡ suc r + (v - r) = omega (arith, root-le (tree overlaps) v) in
+      let r = root overlaps v in let e : suc v ≡ suc r + (v - r) = omega (arith, root-le (tree overlaps) v) in
       rw e (count-none (isRoot overlaps) (suc r) (v - r) none ∙ count-true (isRoot overlaps) r (root-is-root (tree overlaps) v))
     where
       none : (i : ℕ) → suc (root overlaps v) ≤ i → i < suc (root overlaps v) + (v - root overlaps v) → isRoot overlaps i ≡ false

@@ -3,8 +3,7 @@
 -- Vocabulary: between-*, equal-*, comesFirst-*, outcome-*.
 -- Assumes nothing.
 use Prim.Native.Nat.{ℕ, _+_, _-_, _≤_, _<_}
-use mathlib.Core.Bool.{true, false, _&&_, _||_}
-use mathlib.Core.Path.{_≡_, refl, sym, ap, _∙_}
+use mathlib.Core.{Bool.true, Bool.false, Bool._&&_, Bool._||_, Path._≡_, Path.refl, Path.sym, Path.ap, Path._∙_}
 use mathlib.Core.Logic.{_⊎_, inl, inr, ⊎-elim}
 use native.Mathlib.Omega.{arith}
 use lib.Dec.{ltb, leb, eqb}
@@ -20,7 +19,7 @@ module _ (u v : Numbers) where
   unfolding between
   between-rising-near rising near =
       rw (lt-ltb _ _ rising)
-      (⊎-elim (λ h. rw (le-leb (v .rank) (u .last) h)) (λ h. rw (or-right (leb (v .rank) (u .last)) (ltb (u .last) (u .rank)) (lt-ltb (u .last) (u .rank) h))) near)
+      (⊎-elim (λ h. rw (le-leb (v .rank) (u .last) h)) (λ h. rw (or-right (leb (v .rank) (u .last)) _ (lt-ltb (u .last) (u .rank) h))) near)
 
   -- "else D + 2"
   pub between-rising-far : u .rank < v .rank → u .last < v .rank → u .rank ≤ u .last → between u v ≡ v .depth - u .depth + 2

@@ -2,15 +2,10 @@
 -- Vocabulary: parent, last.
 -- Assumes nothing.
 use Prim.Native.Nat.{ℕ, _≤_, _<_}
-use mathlib.Core.Bool.{Bool, true}
-use mathlib.Core.Path.{_≡_}
-use mathlib.Core.Logic.{⊎-elim}
+use mathlib.Core.{Bool.Bool, Bool.true, Path._≡_, Logic.⊎-elim}
 use native.Mathlib.Omega.{arith}
-use Rattle.sequences.proofs.Tests.{lt-or-ge}
-use Rattle.sequences.proofs.Search.{least-le, least-holds, least-minimal}
-use Rattle.interval_graph.specs.Order.{IntervalOrder}
-use Rattle.interval_graph.specs.Forest.{Forest}
-use Rattle.interval_graph.specs.Tree.{last, parent}
+use Rattle.sequences.proofs.{Tests.lt-or-ge, Search.least-le, Search.least-holds, Search.least-minimal}
+use Rattle.interval_graph.specs.{Order.IntervalOrder, Forest.Forest, Tree.last, Tree.parent}
 use Rattle.interval_graph.proofs.Last.{last-ge, overlap-last, last-overlap}
 
 -- The parent of v is at most v.

@@ -2,18 +2,12 @@
 -- definitions by computation.
 -- Assumes nothing.
 use Prim.Native.Nat.{ℕ, _+_, min, max}
-use mathlib.Core.Bool.{Bool, true, not, _&&_}
-use mathlib.Core.Path.{_≡_, refl}
-use mathlib.Core.List.{List, [], _∷_, flatMap}
-use lib.ListN.{getD}
-use lib.Dec.{ltb, eqb}
-use Rattle.sequences.specs.Search.{least, greatest, count, passing}
-use Rattle.sequences.specs.Lists.{indexOf, total}
-use Rattle.sequences.specs.Table.{table}
+use mathlib.Core.{Bool.Bool, Bool.true, Bool.not, Bool._&&_, Path._≡_, Path.refl, List.List, List.[], List._∷_, List.flatMap}
+use lib.{ListN.getD, Dec.ltb, Dec.eqb}
+use Rattle.sequences.specs.{Search.least, Search.greatest, Search.count, Search.passing, Lists.indexOf, Lists.total, Table.table}
 use Rattle.interval_graph.specs.Chain.{handovers, isChain, leads, joins, firstEntry, lastEntry}
 use Rattle.interval_graph.specs.Tree.{last, parent, depth, component, rank, lastRank}
-use Rattle.interval_graph.specs.Walk.{climb, walk, chainOf}
-use Rattle.interval_graph.specs.Reach.{lastInComponent, reach}
+use Rattle.interval_graph.specs.{Walk.climb, Walk.walk, Walk.chainOf, Reach.lastInComponent, Reach.reach}
 use Rattle.interval_graph.specs.Numbers.{Outcome, numbersOf, apart, no-chain, equal, comesFirst, between, outcome}
 use Rattle.interval_graph.specs.Forest as Forest
 
@@ -31,13 +25,14 @@ overlaps u v =
 
 -- What a computation of plan 12 opens: naming it on an `unfolding` line opens all that its own line names.
 unfoldable pub definitions : Unit {0}
-unfolding table overlaps offsets lengths last parent lastRank Forest.isRoot Forest.ancestor Forest.depth Forest.root Forest.component Forest.children Forest.postOrderTo Forest.postOrder Forest.rank least greatest count passing indexOf flatMap outcome equal comesFirst between numbersOf handovers isChain leads joins firstEntry lastEntry
+unfolding table overlaps offsets lengths last parent lastRank
+    Forest.isRoot Forest.ancestor Forest.depth Forest.root Forest.component Forest.children Forest.postOrderTo Forest.postOrder Forest.rank
+    least greatest count passing indexOf flatMap outcome equal comesFirst between numbersOf handovers isChain leads joins firstEntry lastEntry
 definitions = tt
 
 -- A line of the paper's listing after its position: parent, component, depth, rank, rank of the last.
 unfoldable pub row : (ℕ → ℕ → Bool) → ℕ → List ℕ
-row overlap v =
-    parent overlap v ∷ component overlap v ∷ depth overlap v ∷ rank 7 overlap v ∷ lastRank 7 overlap v ∷ []
+row overlap v = parent overlap v ∷ component overlap v ∷ depth overlap v ∷ rank 7 overlap v ∷ lastRank 7 overlap v ∷ []
 
 unfoldable pub listing : List (List ℕ)
 listing =
@@ -90,8 +85,8 @@ plan-12-handovers = refl
 
 -- The chains that are written are the paper's; between windows of two components nothing is written, and between a window and its
 -- last the two alone.
-pub plan-12-written : chainOf 7 overlaps 0 5 ∷ chainOf 7 overlaps 3 5 ∷ chainOf 7 overlaps 3 1 ∷ chainOf 7 overlaps 6 6 ∷ chainOf 7 overlaps 5 6 ∷ chainOf 7 overlaps 0 3 ∷ []
-    ≡ (5 ∷ 4 ∷ 2 ∷ 0 ∷ []) ∷ (5 ∷ 4 ∷ 2 ∷ 3 ∷ []) ∷ (3 ∷ 0 ∷ 1 ∷ []) ∷ (6 ∷ []) ∷ [] ∷ (3 ∷ 0 ∷ []) ∷ []
+pub plan-12-written : chainOf 7 overlaps 0 5 ∷ chainOf 7 overlaps 3 5 ∷ chainOf 7 overlaps 3 1 ∷ chainOf 7 overlaps 6 6
+    ∷ chainOf 7 overlaps 5 6 ∷ chainOf 7 overlaps 0 3 ∷ [] ≡ (5 ∷ 4 ∷ 2 ∷ 0 ∷ []) ∷ (5 ∷ 4 ∷ 2 ∷ 3 ∷ []) ∷ (3 ∷ 0 ∷ 1 ∷ []) ∷ (6 ∷ []) ∷ [] ∷ (3 ∷ 0 ∷ []) ∷ []
 unfolding definitions climb walk chainOf
 plan-12-written = refl
 

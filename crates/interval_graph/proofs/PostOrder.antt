@@ -3,16 +3,14 @@
 -- Vocabulary: children, postOrder, Under (a window under another, so many steps down).
 -- Assumes nothing.
 use Prim.Native.Nat.{ℕ, zero, suc, _+_, _≤_, _<_}
-use mathlib.Core.Bool.{_&&_}
-use mathlib.Core.Path.{_≡_, refl, sym, ap, _∙_}
-use mathlib.Core.Logic.{⊎-elim, _↔_}
-use mathlib.Core.List.{List, [], _∷_, _++_, flatMap, List·Memᴰ, List·Memᴰ·head, Memᴰ·append-left, Memᴰ·append-right, List·Memᴰ·append-cases, List·Memᴰ·eq-of-singleton}
+use mathlib.Core.{Bool._&&_, Path._≡_, Path.refl, Path.sym, Path.ap, Path._∙_, Logic.⊎-elim, Logic._↔_}
+use mathlib.Core.List.{List, [], _∷_, _++_, flatMap, List·Memᴰ, List·Memᴰ·head, Memᴰ·append-left, Memᴰ·append-right, List·Memᴰ·append-cases}
+use mathlib.Core.List.{List·Memᴰ·eq-of-singleton}
 use native.Mathlib.Omega.{arith}
 use lib.Dec.{ltb, eqb}
 use borrow.Author.Tests.{ltb-true, eqb-true, lt-ltb, eq-eqb}
 use Rattle.sequences.proofs.Tests.{lt-or-ge, and-left, and-right, and-intro}
-use Rattle.sequences.proofs.Passing.{passing-sound, passing-complete}
-use Rattle.sequences.proofs.Pairwise.{Pairwise, passing-rises}
+use Rattle.sequences.proofs.{Passing.passing-sound, Passing.passing-complete, Pairwise.Pairwise, Pairwise.passing-rises}
 use Rattle.sequences.proofs.FlatMap.{flatMap-sound, flatMap-complete, flatMap-cong}
 use Rattle.interval_graph.specs.Forest.{ancestor, depth, root, component, children, postOrderTo, postOrder, Forest}
 use Rattle.interval_graph.proofs.Ancestor.{ancestor-zero, ancestor-suc, ancestor-le}
@@ -75,16 +73,14 @@ module _ (n : ℕ) {parent : ℕ → ℕ} (forest : Forest parent) where
   levels-enough (suc f) zero v h a b = absurd (omega arith)
   levels-enough (suc f) (suc g) v h a b =
       ap (λ (l : List ℕ). l ++ (v ∷ [])) (flatMap-cong (postOrderTo n parent f) (postOrderTo n parent g) (children n parent v)
-      (λ c m. let k = children-sound v c m in
-      levels-enough f g c (k .window) (omega (arith, k .behind)) (omega (arith, k .behind))))
+      (λ c m. let k = children-sound v c m in levels-enough f g c (k .window) (omega (arith, k .behind)) (omega (arith, k .behind))))
 
   levels-children : (f v : ℕ) → v < n → n ≤ v + f → postOrderTo n parent f v ≡ flatMap (postOrder n parent) (children n parent v) ++ (v ∷ [])
   unfolding postOrder postOrderTo
   levels-children zero v h b = absurd (omega arith)
   levels-children (suc f) v h b =
       ap (λ (l : List ℕ). l ++ (v ∷ [])) (flatMap-cong (postOrderTo n parent f) (postOrder n parent) (children n parent v)
-      (λ c m. let k = children-sound v c m in
-      levels-enough f n c (k .window) (omega (arith, k .behind)) (omega arith)))
+      (λ c m. let k = children-sound v c m in levels-enough f n c (k .window) (omega (arith, k .behind)) (omega arith)))
 
   -- The list of v is the lists of its children, in order of position, and then v.
   pub postOrder-children : (v : ℕ) → v < n → postOrder n parent v ≡ flatMap (postOrder n parent) (children n parent v) ++ (v ∷ [])
@@ -119,10 +115,10 @@ module _ (n : ℕ) {parent : ℕ → ℕ} (forest : Forest parent) where
   pub postOrder-sound : (v x : ℕ) → v < n → List·Memᴰ x (postOrder n parent v) → Under n parent v x
   postOrder-sound v x h = by-children (λ v. List·Memᴰ x (postOrder n parent v) → Under n parent v x) step v h
     where
-      step : (v : ℕ) → v < n → ((c : ℕ) → Child n parent v c → List·Memᴰ x (postOrder n parent c) → Under n parent c x) → List·Memᴰ x (postOrder n parent v) → Under n parent v x
+      step : (v : ℕ) → v < n → ((c : ℕ) → Child n parent v c → List·Memᴰ x (postOrder n parent c) → Under n parent c x) →
+          List·Memᴰ x (postOrder n parent v) → Under n parent v x
       step v h below m =
-          ⊎-elim (λ g. let r = flatMap-sound (postOrder n parent) (children n parent v) x g in
-          let k = children-sound v (r .0) (r .1) in
+          ⊎-elim (λ g. let r = flatMap-sound (postOrder n parent) (children n parent v) x g in let k = children-sound v (r .0) (r .1) in
           under-child v (r .0) x k (below (r .0) k (r .2))) (λ g. let e : x ≡ v = List·Memᴰ·eq-of-singleton g in rw e (under-self v h))
           (List·Memᴰ·append-cases (flatMap (postOrder n parent) (children n parent v)) (rw (postOrder-children v h) at m))
 
@@ -132,12 +128,10 @@ module _ (n : ℕ) {parent : ℕ → ℕ} (forest : Forest parent) where
       let s : x ≡ v = sym (ancestor-zero forest x) ∙ e in
       rw (postOrder-children v (omega arith)) (Memᴰ·append-right (flatMap (postOrder n parent) (children n parent v)) (List·Memᴰ·head s))
   postOrder-complete (suc k) x v h e =
-      let c = ancestor parent k x in
-      let below : List·Memᴰ x (postOrder n parent c) = postOrder-complete k x c h refl in
-      let p : parent c ≡ v = sym (ancestor-suc forest k x) ∙ e in
-      let b : c < n = omega (arith, ancestor-le forest k x) in
-      ⊎-elim (λ g. rw (postOrder-children v (omega arith))
-      (Memᴰ·append-left (v ∷ []) (flatMap-complete (postOrder n parent) (children n parent v) c x (children-complete v c (record { behind = omega arith; window = b; parent-is = p })) below)))
+      let c = ancestor parent k x in let below : List·Memᴰ x (postOrder n parent c) = postOrder-complete k x c h refl in
+      let p : parent c ≡ v = sym (ancestor-suc forest k x) ∙ e in let b : c < n = omega (arith, ancestor-le forest k x) in
+      ⊎-elim (λ g. let m = children-complete v c (record { behind = omega arith; window = b; parent-is = p }) in
+      rw (postOrder-children v (omega arith)) (Memᴰ·append-left (v ∷ []) (flatMap-complete (postOrder n parent) (children n parent v) c x m below)))
       (λ g. let s : v ≡ c = omega (arith, forest .parent-le c) in rw s below) (lt-or-ge (parent c) c)
 
   -- Of a root, the list holds the windows of its component, and those only.

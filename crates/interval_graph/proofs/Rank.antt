@@ -7,12 +7,12 @@ use mathlib.Core.Path.{_≡_, refl, sym, _∙_}
 use mathlib.Core.List.{[], _∷_, flatMap, List·Memᴰ, List·Memᴰ·eq-of-singleton, List·Memᴰ·not-nil}
 use native.Mathlib.Omega.{arith}
 use lib.ListN.{length, getD}
-use Rattle.sequences.specs.Lists.{indexOf}
-use Rattle.sequences.proofs.Lists.{index-below, index-at}
+use Rattle.sequences.{specs.Lists.indexOf, proofs.Lists.index-below, proofs.Lists.index-at}
 use Rattle.sequences.proofs.Pairwise.{Pairwise, pairwise-append, pairwise-flatMap, pairwise-once, pairwise-length}
 use Rattle.interval_graph.specs.Forest.{depth, root, rank, children, postOrder, Forest, size, start}
 use Rattle.interval_graph.proofs.Depth.{root-le, ancestor-past}
-use Rattle.interval_graph.proofs.PostOrder.{Child, children-sound, children-rise, child-depth, by-children, postOrder-children, postOrder-sound, postOrder-complete}
+use Rattle.interval_graph.proofs.PostOrder.{Child, children-sound, children-rise, child-depth, by-children, postOrder-children}
+use Rattle.interval_graph.proofs.PostOrder.{postOrder-sound, postOrder-complete}
 use Rattle.interval_graph.proofs.Size.{rank-size, not-below, under-unique}
 
 module _ (n : ℕ) {parent : ℕ → ℕ} (forest : Forest parent) where
@@ -21,7 +21,8 @@ module _ (n : ℕ) {parent : ℕ → ℕ} (forest : Forest parent) where
   pub postOrder-distinct : (v : ℕ) → v < n → Pairwise (λ x y. x ≡ y → ⊥) (postOrder n parent v)
   postOrder-distinct v h = by-children n forest (λ v. Pairwise (λ x y. x ≡ y → ⊥) (postOrder n parent v)) step v h
     where
-      step : (v : ℕ) → v < n → ((c : ℕ) → Child n parent v c → Pairwise (λ x y. x ≡ y → ⊥) (postOrder n parent c)) → Pairwise (λ x y. x ≡ y → ⊥) (postOrder n parent v)
+      step : (v : ℕ) → v < n → ((c : ℕ) → Child n parent v c → Pairwise (λ x y. x ≡ y → ⊥) (postOrder n parent c)) →
+          Pairwise (λ x y. x ≡ y → ⊥) (postOrder n parent v)
       step v h below =
           rw (postOrder-children n forest v h)
           (pairwise-append (λ x y. x ≡ y → ⊥) (flatMap (postOrder n parent) (children n parent v)) (v ∷ [])
@@ -29,12 +30,13 @@ module _ (n : ℕ) {parent : ℕ → ℕ} (forest : Forest parent) where
           (λ c m. below c (children-sound n forest v c m)) siblings) (λ y m. absurd (List·Memᴰ·not-nil m), tt)
           (λ x y m g e. not-below n forest v (rw (e ∙ List·Memᴰ·eq-of-singleton g) at m)))
         where
-          siblings : (c d x y : ℕ) → List·Memᴰ c (children n parent v) → List·Memᴰ d (children n parent v) → c < d → List·Memᴰ x (postOrder n parent c) → List·Memᴰ y (postOrder n parent d) → x ≡ y → ⊥
+          siblings : (c d x y : ℕ) → List·Memᴰ c (children n parent v) → List·Memᴰ d (children n parent v) → c < d →
+              List·Memᴰ x (postOrder n parent c) → List·Memᴰ y (postOrder n parent d) → x ≡ y → ⊥
           siblings c d x y p q l a b e =
-              let i = children-sound n forest v c p in
-              let j = children-sound n forest v d q in
-              let one : c ≡ d = under-unique n forest c d y (postOrder-sound n forest c y (i .window) (rw e at a)) (postOrder-sound n forest d y (j .window) b) (child-depth n forest v c i ∙ sym (child-depth n forest v d j)) in
-              omega arith
+              let i = children-sound n forest v c p in let j = children-sound n forest v d q in
+              let under = postOrder-sound n forest c y (i .window) (rw e at a) in
+              let level = child-depth n forest v c i ∙ sym (child-depth n forest v d j) in
+              let one : c ≡ d = under-unique n forest c d y under (postOrder-sound n forest d y (j .window) b) level in omega arith
 
   -- The list of a window holds each of its windows once: the entry at i has index i.
   pub postOrder-once : (v i : ℕ) → v < n → i < length (postOrder n parent v) → indexOf (getD (postOrder n parent v) i 0) (postOrder n parent v) ≡ i

@@ -4,26 +4,21 @@
 -- Assumes nothing.
 use Prim.Native.Nat.{ℕ, zero, suc, _+_, _-_, _≤_, _<_, min, max}
 use mathlib.Core.Bool.{Bool, true, false, cond, _&&_, _||_}
-use mathlib.Core.Path.{_≡_, refl, sym, ap, _∙_}
-use mathlib.Core.Logic.{⊎-elim, _↔_}
+use mathlib.Core.{Path._≡_, Path.refl, Path.sym, Path.ap, Path._∙_, Logic.⊎-elim, Logic._↔_}
 use native.Mathlib.Omega.{arith}
 use lib.Dec.{ltb, leb, eqb}
 use borrow.Author.Tests.{ltb-true, ltb-false, leb-true, leb-false, eqb-true, lt-ltb, le-ltb, eq-eqb, ne-eqb}
 use Rattle.sequences.proofs.Tests.{cond-cases, lt-or-ge, equal-or-not, truth, and-left, and-right, and-intro, or-false-right, or-left, or-right}
-use Rattle.interval_graph.specs.Order.{IntervalOrder}
-use Rattle.interval_graph.specs.Chain.{handovers, Joined, LeastHandovers}
+use Rattle.interval_graph.specs.{Order.IntervalOrder, Chain.handovers, Chain.Joined, Chain.LeastHandovers}
 use Rattle.interval_graph.specs.Tree.{last, ancestor, depth, root, component, rank, lastRank}
 use Rattle.interval_graph.specs.Walk.{climb, walk, chainOf}
 use Rattle.interval_graph.specs.Numbers.{Numbers, numbersOf, apart, no-chain, equal, comesFirst, between, outcome}
-use Rattle.interval_graph.proofs.Ancestor.{ancestor-zero}
-use Rattle.interval_graph.proofs.Monotone.{depth-monotone}
+use Rattle.interval_graph.proofs.{Ancestor.ancestor-zero, Monotone.depth-monotone}
 use Rattle.interval_graph.proofs.Component.{root-component, component-root}
 use Rattle.interval_graph.proofs.Chains.{handovers-alone, least-handovers-joined}
-use Rattle.interval_graph.proofs.Climb.{climb-le-position}
-use Rattle.interval_graph.proofs.Walk.{walk-handovers}
+use Rattle.interval_graph.proofs.{Climb.climb-le-position, Walk.walk-handovers}
 use Rattle.interval_graph.proofs.ShortestChain.{chain-same, chain-walk, chain-symmetric, joined-root, root-joined, chain-least, least-is-chain}
-use Rattle.interval_graph.proofs.Before.{rank-lt-iff}
-use Rattle.interval_graph.proofs.Rank.{rank-injective}
+use Rattle.interval_graph.proofs.{Before.rank-lt-iff, Rank.rank-injective}
 use Rattle.interval_graph.proofs.Level.{Pair, climb-at-level, climb-past-level, climb-below-level, climb-to-level, ranks-at-level, ranks-below-level}
 use Rattle.interval_graph.proofs.Parent.{tree}
 
@@ -31,16 +26,14 @@ use Rattle.interval_graph.proofs.Parent.{tree}
 equal-component : (x y : Numbers) → equal x y ≡ true → x .component ≡ y .component
 unfolding equal
 equal-component x y t =
-    let r = eqb (x .depth) (y .depth) && (eqb (x .rank) (y .rank) && eqb (x .last) (y .last)) in
-    eqb-true (x .component) (y .component)
+    let r = eqb (x .depth) (y .depth) && (eqb (x .rank) (y .rank) && eqb (x .last) (y .last)) in eqb-true (x .component) (y .component)
     (and-left (eqb (x .component) (y .component)) r (and-right (eqb (x .plan) (y .plan)) (eqb (x .component) (y .component) && r) t))
 
 equal-rank : (x y : Numbers) → equal x y ≡ true → x .rank ≡ y .rank
 unfolding equal
 equal-rank x y t =
     let r = eqb (x .rank) (y .rank) && eqb (x .last) (y .last) in
-    let d = eqb (x .depth) (y .depth) && r in
-    let c = eqb (x .component) (y .component) && d in
+    let d = eqb (x .depth) (y .depth) && r in let c = eqb (x .component) (y .component) && d in
     eqb-true (x .rank) (y .rank) (and-left (eqb (x .rank) (y .rank)) (eqb (x .last) (y .last))
     (and-right (eqb (x .depth) (y .depth)) r (and-right (eqb (x .component) (y .component)) d (and-right (eqb (x .plan) (y .plan)) c t))))
 
@@ -54,11 +47,12 @@ equal-self x = rw (eqb-self (x .plan), eqb-self (x .component), eqb-self (x .dep
 
 module _ {n : ℕ} {overlaps : ℕ → ℕ → Bool} (ok : IntervalOrder n overlaps) where
   -- The count for u before v in one component, v deeper by D, where the ancestor of v on u's level is not behind u.
-  between-second : (u v D : ℕ) → Pair n overlaps u v D → ancestor overlaps D v ≤ u → cond (leb (rank n overlaps v) (rank n overlaps (last n overlaps u)) && ltb (rank n overlaps (last n overlaps u)) (rank n overlaps u)) D (D + 1) ≡ suc (climb n overlaps u v)
+  between-second : (u v D : ℕ) → Pair n overlaps u v D → ancestor overlaps D v ≤ u →
+      cond (leb (rank n overlaps v) (rank n overlaps (last n overlaps u)) && ltb (rank n overlaps (last n overlaps u)) (rank n overlaps u)) D (D + 1)
+      ≡ suc (climb n overlaps u v)
   between-second u v zero p h = absurd (omega (arith, ancestor-zero (tree overlaps) v, p .order))
   between-second u v (suc D) p h =
-      let x = ancestor overlaps D v in
-      let z = last n overlaps u in
+      let x = ancestor overlaps D v in let z = last n overlaps u in
       cond-cases (λ k. k ≡ suc (climb n overlaps u v)) (leb (rank n overlaps v) (rank n overlaps z) && ltb (rank n overlaps z) (rank n overlaps u))
       (λ s. omega (arith, climb-below-level ok u v D p (leb-true x z (sym (ranks-below-level ok u v D p) ∙ s))))
       (λ s. omega (arith, climb-to-level ok u v D p h (leb-false x z (sym (ranks-below-level ok u v D p) ∙ s))))
@@ -68,8 +62,7 @@ module _ {n : ℕ} {overlaps : ℕ → ℕ → Bool} (ok : IntervalOrder n overl
   unfolding between numbersOf lastRank
   between-pair u v p q D r =
       let e : depth overlaps v - depth overlaps u ≡ D = omega (arith, r .levels) in
-      let w = ancestor overlaps D v in
-      let z = last n overlaps u in
+      let w = ancestor overlaps D v in let z = last n overlaps u in
       let less = rank-lt-iff ok u v D (omega (arith, r .order, r .window)) (r .window) (r .one-root) (r .levels) in
       let counted : ℕ → Type 0 = λ k. k ≡ suc (climb n overlaps u v) in
       rw e (cond-cases counted (ltb (rank n overlaps u) (rank n overlaps v))
@@ -81,33 +74,33 @@ module _ {n : ℕ} {overlaps : ℕ → ℕ → Bool} (ok : IntervalOrder n overl
       (⊎-elim (λ b. absurd (omega (arith, less .1 b, ltb-false (rank n overlaps u) (rank n overlaps v) t))) (λ b. b) (lt-or-ge u w))))
 
   -- For u before v in one component the rule counts one more than the steps up from v.
-  pub between-climb : (u v p q : ℕ) → u < v → v < n → root overlaps u ≡ root overlaps v → between (numbersOf n overlaps p u) (numbersOf n overlaps q v) ≡ suc (climb n overlaps u v)
+  pub between-climb : (u v p q : ℕ) → u < v → v < n → root overlaps u ≡ root overlaps v →
+      between (numbersOf n overlaps p u) (numbersOf n overlaps q v) ≡ suc (climb n overlaps u v)
   between-climb u v p q h g e =
       between-pair u v p q (depth overlaps v - depth overlaps u)
       (record { order = h; window = g; one-root = e; levels = omega (arith, depth-monotone ok u v (omega arith) g e) })
 
   -- The numbers tell which window is the earlier: it comes first.
-  pub first-earlier : (u v p q : ℕ) → u < v → v < n → root overlaps u ≡ root overlaps v → comesFirst (numbersOf n overlaps p u) (numbersOf n overlaps q v) ≡ true
+  pub first-earlier : (u v p q : ℕ) → u < v → v < n → root overlaps u ≡ root overlaps v →
+      comesFirst (numbersOf n overlaps p u) (numbersOf n overlaps q v) ≡ true
   unfolding comesFirst numbersOf
   first-earlier u v p q h g e =
-      let s = ltb (depth overlaps u) (depth overlaps v) in
-      let a = eqb (depth overlaps u) (depth overlaps v) in
-      let b = ltb (rank n overlaps u) (rank n overlaps v) in
-      ⊎-elim (λ l. or-left s (a && b) (lt-ltb (depth overlaps u) (depth overlaps v) l))
-      (λ l. let d : depth overlaps u ≡ depth overlaps v = omega (arith, depth-monotone ok u v (omega arith) g e) in
-      or-right s (a && b) (and-intro a b (eq-eqb (depth overlaps u) (depth overlaps v) d)
-      (lt-ltb (rank n overlaps u) (rank n overlaps v) (rank-lt-iff ok u v 0 (omega arith) g e (omega arith) .1 (omega (arith, ancestor-zero (tree overlaps) v))))))
-      (lt-or-ge (depth overlaps u) (depth overlaps v))
+      let i = depth overlaps u in let j = depth overlaps v in let x = rank n overlaps u in let y = rank n overlaps v in
+      let s = ltb i j in let a = eqb i j in let b = ltb x y in
+      ⊎-elim (λ l. or-left s (a && b) (lt-ltb i j l)) (λ l. let d : i ≡ j = omega (arith, depth-monotone ok u v (omega arith) g e) in
+      let r = rank-lt-iff ok u v 0 (omega arith) g e (omega arith) .1 (omega (arith, ancestor-zero (tree overlaps) v)) in
+      or-right s (a && b) (and-intro a b (eq-eqb i j d) (lt-ltb x y r))) (lt-or-ge i j)
 
   -- The later window does not come first.
-  pub first-not-later : (u v p q : ℕ) → u < v → v < n → root overlaps u ≡ root overlaps v → comesFirst (numbersOf n overlaps p v) (numbersOf n overlaps q u) ≡ false
+  pub first-not-later : (u v p q : ℕ) → u < v → v < n → root overlaps u ≡ root overlaps v →
+      comesFirst (numbersOf n overlaps p v) (numbersOf n overlaps q u) ≡ false
   unfolding comesFirst numbersOf
   first-not-later u v p q h g e =
-      let s = ltb (depth overlaps v) (depth overlaps u) in
-      let a = eqb (depth overlaps v) (depth overlaps u) in
-      let b = ltb (rank n overlaps v) (rank n overlaps u) in
-      let second : (a && b) ≡ false = ⊎-elim (λ t. absurd (refuted (eqb-true (depth overlaps v) (depth overlaps u) (and-left a b t)) (ltb-true (rank n overlaps v) (rank n overlaps u) (and-right a b t)))) (λ t. t) (truth (a && b)) in
-      or-false-right s (a && b) second ∙ le-ltb (depth overlaps v) (depth overlaps u) (depth-monotone ok u v (omega arith) g e)
+      let i = depth overlaps v in let j = depth overlaps u in let x = rank n overlaps v in let y = rank n overlaps u in
+      let s = ltb i j in let a = eqb i j in let b = ltb x y in
+      let no : (a && b) ≡ true → ⊥ = λ t. refuted (eqb-true i j (and-left a b t)) (ltb-true x y (and-right a b t)) in
+      let second : (a && b) ≡ false = ⊎-elim (λ t. absurd (no t)) (λ t. t) (truth (a && b)) in
+      or-false-right s (a && b) second ∙ le-ltb i j (depth-monotone ok u v (omega arith) g e)
     where
       refuted : depth overlaps v ≡ depth overlaps u → rank n overlaps v < rank n overlaps u → ⊥
       refuted d l = omega (arith, rank-lt-iff ok v u 0 g (omega arith) (sym e) (omega arith) .0 l, ancestor-zero (tree overlaps) u)
@@ -124,10 +117,9 @@ module _ {n : ℕ} {overlaps : ℕ → ℕ → Bool} (ok : IntervalOrder n overl
   -- The chain between two windows of one component has one handover more than the steps up from the later.
   pub chain-handovers : (u v : ℕ) → u < v → v < n → root overlaps u ≡ root overlaps v → handovers (chainOf n overlaps u v) ≡ suc (climb n overlaps u v)
   chain-handovers u v h g e =
-      let p : min u v ≡ u = omega arith in
-      let q : max u v ≡ v = omega arith in
-      let w : chainOf n overlaps u v ≡ walk n overlaps u v = rw (p, q) at (chain-walk n overlaps u v (λ s. omega arith) (rw (p, q) (climb-le-position ok u v e))) in
-      ap handovers w ∙ walk-handovers n overlaps u v
+      let p : min u v ≡ u = omega arith in let q : max u v ≡ v = omega arith in
+      let c = chain-walk n overlaps u v (λ s. omega arith) (rw (p, q) (climb-le-position ok u v e)) in
+      let w : chainOf n overlaps u v ≡ walk n overlaps u v = rw (p, q) at c in ap handovers w ∙ walk-handovers n overlaps u v
 
   not-equal : (a b p : ℕ) → a < n → b < n → (a ≡ b → ⊥) → equal (numbersOf n overlaps p a) (numbersOf n overlaps p b) ≡ false
   not-equal a b p g l d =
@@ -138,15 +130,17 @@ module _ {n : ℕ} {overlaps : ℕ → ℕ → Bool} (ok : IntervalOrder n overl
   unfolding outcome
   outcome-self a p = rw (equal-self (numbersOf n overlaps p a))
 
-  outcome-two : (a b p : ℕ) → a < n → b < n → (a ≡ b → ⊥) → root overlaps a ≡ root overlaps b → outcome (numbersOf n overlaps p a) (numbersOf n overlaps p b) ≡ apart (cond (comesFirst (numbersOf n overlaps p a) (numbersOf n overlaps p b)) (between (numbersOf n overlaps p a) (numbersOf n overlaps p b)) (between (numbersOf n overlaps p b) (numbersOf n overlaps p a)))
+  outcome-two : (a b p : ℕ) → a < n → b < n → (a ≡ b → ⊥) → root overlaps a ≡ root overlaps b → outcome (numbersOf n overlaps p a) (numbersOf n overlaps p b)
+      ≡ apart (cond (comesFirst (numbersOf n overlaps p a) (numbersOf n overlaps p b))
+      (between (numbersOf n overlaps p a) (numbersOf n overlaps p b)) (between (numbersOf n overlaps p b) (numbersOf n overlaps p a)))
   unfolding outcome numbersOf
   outcome-two a b p g l d e =
       let t : equal (numbersOf n overlaps p a) (numbersOf n overlaps p b) ≡ false = not-equal a b p g l d in
-      let s : eqb (component overlaps a) (component overlaps b) ≡ true = eq-eqb _ _ (root-component (tree overlaps) a b e) in
-      rw (t, s)
+      let s : eqb (component overlaps a) (component overlaps b) ≡ true = eq-eqb _ _ (root-component (tree overlaps) a b e) in rw (t, s)
 
   -- For windows of one component the outcome is the count of the chain between them.
-  pub outcome-chain : (a b p : ℕ) → a < n → b < n → root overlaps a ≡ root overlaps b → outcome (numbersOf n overlaps p a) (numbersOf n overlaps p b) ≡ apart (handovers (chainOf n overlaps a b))
+  pub outcome-chain : (a b p : ℕ) → a < n → b < n → root overlaps a ≡ root overlaps b →
+      outcome (numbersOf n overlaps p a) (numbersOf n overlaps p b) ≡ apart (handovers (chainOf n overlaps a b))
   outcome-chain a b p g l e =
       ⊎-elim (λ h. outcome-two a b p g l (λ s. omega arith) e
       ∙ rw (first-earlier a b p p h l e) (ap apart (between-climb a b p p h l e ∙ sym (chain-handovers a b h l e)))) (λ h. ⊎-elim
@@ -157,7 +151,8 @@ module _ {n : ℕ} {overlaps : ℕ → ℕ → Bool} (ok : IntervalOrder n overl
       (lt-or-ge a b)
 
   -- For windows of two components it is no chain.
-  pub outcome-none : (a b p : ℕ) → a < n → b < n → (root overlaps a ≡ root overlaps b → ⊥) → outcome (numbersOf n overlaps p a) (numbersOf n overlaps p b) ≡ no-chain
+  pub outcome-none : (a b p : ℕ) → a < n → b < n → (root overlaps a ≡ root overlaps b → ⊥) →
+      outcome (numbersOf n overlaps p a) (numbersOf n overlaps p b) ≡ no-chain
   unfolding outcome numbersOf
   outcome-none a b p g l d =
       let t : equal (numbersOf n overlaps p a) (numbersOf n overlaps p b) ≡ false = not-equal a b p g l (λ s. d (ap (root overlaps) s)) in
@@ -165,14 +160,16 @@ module _ {n : ℕ} {overlaps : ℕ → ℕ → Bool} (ok : IntervalOrder n overl
       rw (t, s)
 
   -- The outcome is the same in either order of naming.
-  pub outcome-symmetric : (a b p : ℕ) → a < n → b < n → outcome (numbersOf n overlaps p a) (numbersOf n overlaps p b) ≡ outcome (numbersOf n overlaps p b) (numbersOf n overlaps p a)
+  pub outcome-symmetric : (a b p : ℕ) → a < n → b < n →
+      outcome (numbersOf n overlaps p a) (numbersOf n overlaps p b) ≡ outcome (numbersOf n overlaps p b) (numbersOf n overlaps p a)
   outcome-symmetric a b p g l =
       ⊎-elim (λ e. outcome-chain a b p g l e
       ∙ (ap (λ c. apart (handovers c)) (chain-symmetric n overlaps a b) ∙ sym (outcome-chain b a p l g (sym e))))
       (λ d. outcome-none a b p g l d ∙ sym (outcome-none b a p l g (λ e. d (sym e)))) (equal-or-not (root overlaps a) (root overlaps b))
 
   -- The outcome is a count exactly if that is the least number of handovers.
-  pub outcome-apart : (a b p k : ℕ) → a < n → b < n → (outcome (numbersOf n overlaps p a) (numbersOf n overlaps p b) ≡ apart k) ↔ LeastHandovers n overlaps a b k
+  pub outcome-apart : (a b p k : ℕ) → a < n → b < n →
+      (outcome (numbersOf n overlaps p a) (numbersOf n overlaps p b) ≡ apart k) ↔ LeastHandovers n overlaps a b k
   outcome-apart a b p k g l = (to, from)
     where
       to : outcome (numbersOf n overlaps p a) (numbersOf n overlaps p b) ≡ apart k → LeastHandovers n overlaps a b k
@@ -190,4 +187,5 @@ module _ {n : ℕ} {overlaps : ℕ → ℕ → Bool} (ok : IntervalOrder n overl
   -- It is no chain exactly if none joins the two.
   pub outcome-no-chain : (a b p : ℕ) → a < n → b < n → (outcome (numbersOf n overlaps p a) (numbersOf n overlaps p b) ≡ no-chain) ↔ (Joined n overlaps a b → ⊥)
   outcome-no-chain a b p g l =
-      (λ o j. let z : _≡_ {A = ℕ} 0 1 = cc (outcome-chain a b p g l (joined-root ok a b j)) in omega arith, λ d. outcome-none a b p g l (λ e. d (root-joined ok a b g l e)))
+      let root = joined-root ok a b in let chain = root-joined ok a b g l in
+      (λ o j. let z : _≡_ {A = ℕ} 0 1 = cc (outcome-chain a b p g l (root j)) in omega arith, λ d. outcome-none a b p g l (λ e. d (chain e)))

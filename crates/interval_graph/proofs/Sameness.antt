@@ -4,22 +4,19 @@
 -- Assumes nothing.
 use Prim.Native.Nat.{ℕ, _≤_, _<_}
 use mathlib.Core.Bool.{Bool, true, _&&_}
-use mathlib.Core.Path.{_≡_, refl, sym, ap, _∙_}
-use mathlib.Core.Logic.{⊎-elim, _↔_}
-use mathlib.Core.List.{List, [], _∷_}
+use mathlib.Core.{Path._≡_, Path.refl, Path.sym, Path.ap, Path._∙_, Logic.⊎-elim, Logic._↔_, List.List, List.[], List._∷_}
 use native.Mathlib.Omega.{arith}
 use lib.Dec.{ltb}
-use Rattle.sequences.proofs.Tests.{iff-equal, lt-or-ge}
-use Rattle.sequences.proofs.Search.{least-cong, greatest-cong}
+use Rattle.sequences.proofs.{Tests.iff-equal, Tests.lt-or-ge, Search.least-cong, Search.greatest-cong}
 use Rattle.interval_graph.specs.Order.{IntervalOrder}
 use Rattle.interval_graph.specs.Chain.{firstEntry, lastEntry, handovers, leads, LeastHandovers}
 use Rattle.interval_graph.specs.Tree.{last, parent, depth, component, rank, lastRank}
 use Rattle.interval_graph.specs.Numbers.{numbersOf, outcome}
 use Rattle.interval_graph.proofs.Last.{overlap-distinct, last-below, last-overlap, overlap-last}
-use Rattle.interval_graph.proofs.Chains.{chain-not-empty, chain-overlap, chain-alone, chain-cons, leads-chain, leads-first, leads-last, leads-intro, leads-joins, joins-cases}
+use Rattle.interval_graph.proofs.Chains.{chain-not-empty, chain-overlap, chain-alone, chain-cons, leads-chain, leads-first}
+use Rattle.interval_graph.proofs.Chains.{leads-last, leads-intro, leads-joins, joins-cases}
 use Rattle.interval_graph.proofs.Rule.{outcome-apart}
-use Rattle.interval_graph.proofs.Agreement.{component-agrees, depth-agrees, rank-agrees}
-use Rattle.interval_graph.proofs.Parent.{tree}
+use Rattle.interval_graph.proofs.{Agreement.component-agrees, Agreement.depth-agrees, Agreement.rank-agrees, Parent.tree}
 
 -- The same pairs of windows overlap.
 abbrev pub SameOverlaps : ℕ → (ℕ → ℕ → Bool) → (ℕ → ℕ → Bool) → Type 0
@@ -72,8 +69,7 @@ module _ {n : ℕ} {overlaps : ℕ → ℕ → Bool} (ok : IntervalOrder n overl
   leads-one a b [] t e = absurd (omega arith)
   leads-one a b (x ∷ []) t e = absurd (omega arith)
   leads-one a b (x ∷ (y ∷ [])) t e =
-      let p : x ≡ a = leads-first n overlaps a b (x ∷ (y ∷ [])) t in
-      let q : y ≡ b = leads-last n overlaps a b (x ∷ (y ∷ [])) t in
+      let p : x ≡ a = leads-first n overlaps a b (x ∷ (y ∷ [])) t in let q : y ≡ b = leads-last n overlaps a b (x ∷ (y ∷ [])) t in
       rw (← p, ← q) (chain-overlap n overlaps x y [] (leads-chain n overlaps a b (x ∷ (y ∷ [])) t))
   leads-one a b (x ∷ (y ∷ (z ∷ l))) t e = absurd (omega arith)
 
@@ -82,13 +78,13 @@ module _ {n : ℕ} {overlaps : ℕ → ℕ → Bool} (ok : IntervalOrder n overl
   unfolding firstEntry lastEntry handovers
   overlap-iff-one u v h g = (
     λ t. record {
-      attained = (u ∷ (v ∷ []), leads-joins n overlaps u v (u ∷ (v ∷ [])) (leads-intro n overlaps u v (u ∷ (v ∷ [])) (chain-cons n overlaps u v [] h t (chain-alone n overlaps v g)) refl refl), refl);
+      attained = let l = u ∷ (v ∷ []) in let c = chain-cons n overlaps u v [] h t (chain-alone n overlaps v g) in
+          (l, leads-joins n overlaps u v l (leads-intro n overlaps u v l c refl refl), refl);
       none-fewer = λ l j.
           ⊎-elim (λ s. leads-some u v l s (overlap-distinct ok u v t))
           (λ s. leads-some v u l s (λ e. overlap-distinct ok u v t (sym e))) (joins-cases n overlaps u v l j);
     },
-    λ p.
-        let l = p .attained .0 in
+    λ p. let l = p .attained .0 in
         ⊎-elim (λ s. leads-one u v l s (p .attained .2)) (λ s. ok .symmetric u v ∙ leads-one v u l s (p .attained .2))
         (joins-cases n overlaps u v l (p .attained .1)),
   )
@@ -113,7 +109,8 @@ module _ {n : ℕ} {first second : ℕ → ℕ → Bool} (ok : IntervalOrder n f
   -- The same numbers come from the same overlaps.
   pub numbers-overlaps : SameNumbers n first second → SameOverlaps n first second
   numbers-overlaps s u v h g =
-      let e : outcome (numbersOf n first 0 u) (numbersOf n first 0 v) ≡ outcome (numbersOf n second 0 u) (numbersOf n second 0 v) = rw (numbers-equal s 0 u h, numbers-equal s 0 v g) in
+      let a = numbersOf n first 0 in let b = numbersOf n second 0 in
+      let e : outcome (a u) (a v) ≡ outcome (b u) (b v) = rw (numbers-equal s 0 u h, numbers-equal s 0 v g) in
       iff-equal (first u v) (second u v)
       (λ t. overlap-iff-one ok′ u v h g .1 (outcome-apart ok′ u v 0 1 h g .0 (sym e ∙ outcome-apart ok u v 0 1 h g .1 (overlap-iff-one ok u v h g .0 t))))
       (λ t. overlap-iff-one ok u v h g .1 (outcome-apart ok u v 0 1 h g .0 (e ∙ outcome-apart ok′ u v 0 1 h g .1 (overlap-iff-one ok′ u v h g .0 t))))

@@ -4,22 +4,20 @@
 -- Assumes nothing.
 use Prim.Native.Nat.{ℕ, _≤_, _<_, min, max}
 use mathlib.Core.Bool.{Bool, true, false}
-use mathlib.Core.Path.{_≡_, sym, ap, _∙_}
-use mathlib.Core.Logic.{⊎-elim, _↔_}
-use mathlib.Core.List.{List, [], _∷_}
+use mathlib.Core.{Path._≡_, Path.sym, Path.ap, Path._∙_, Logic.⊎-elim, Logic._↔_, List.List, List.[], List._∷_}
 use native.Mathlib.Omega.{arith}
 use lib.Dec.{leb, eqb}
 use borrow.Author.Tests.{eq-eqb, ne-eqb, le-leb, lt-leb}
 use Rattle.sequences.proofs.Tests.{lt-or-ge, equal-or-not}
 use Rattle.interval_graph.specs.Order.{IntervalOrder}
 use Rattle.interval_graph.specs.Chain.{firstEntry, lastEntry, handovers, leads, joins, Joined, LeastHandovers, fromLater, EarliestShortest}
-use Rattle.interval_graph.specs.Tree.{root, component}
-use Rattle.interval_graph.specs.Walk.{climb, walk, chainOf}
+use Rattle.interval_graph.specs.{Tree.root, Tree.component, Walk.climb, Walk.walk, Walk.chainOf}
 use Rattle.interval_graph.proofs.Component.{root-component, component-root}
-use Rattle.interval_graph.proofs.Chains.{chain-not-empty, leads-chain, leads-first, leads-last, joins-cases, leads-joins, joins-swap, joins-not-empty, later-leads, handovers-later, shortest-least, least-handovers-unique, least-handovers-joined}
+use Rattle.interval_graph.proofs.Chains.{chain-not-empty, leads-chain, leads-first, leads-last, joins-cases, leads-joins, joins-swap}
+use Rattle.interval_graph.proofs.Chains.{joins-not-empty, later-leads, handovers-later, shortest-least, least-handovers-unique}
+use Rattle.interval_graph.proofs.Chains.{least-handovers-joined}
 use Rattle.interval_graph.proofs.Climb.{climb-le-position, chain-root}
-use Rattle.interval_graph.proofs.Walk.{Best, walk-leads, walk-best, alone-best}
-use Rattle.interval_graph.proofs.Parent.{tree}
+use Rattle.interval_graph.proofs.{Walk.Best, Walk.walk-leads, Walk.walk-best, Walk.alone-best, Parent.tree}
 
 -- the equations a reader expects, of any overlap test
 
@@ -34,16 +32,14 @@ module _ (n : ℕ) (overlaps : ℕ → ℕ → Bool) where
   unfolding chainOf
   chain-walk a b d h =
       let t : eqb a b ≡ false = ne-eqb a b d in
-      let s : leb (climb n overlaps (min a b) (max a b)) (max a b) ≡ true = le-leb _ _ h in
-      rw (t, s)
+      let s : leb (climb n overlaps (min a b) (max a b)) (max a b) ≡ true = le-leb _ _ h in rw (t, s)
 
   -- Nothing where the walk does not arrive.
   pub chain-none : (a b : ℕ) → (a ≡ b → ⊥) → max a b < climb n overlaps (min a b) (max a b) → chainOf n overlaps a b ≡ []
   unfolding chainOf
   chain-none a b d h =
       let t : eqb a b ≡ false = ne-eqb a b d in
-      let s : leb (climb n overlaps (min a b) (max a b)) (max a b) ≡ false = lt-leb _ _ h in
-      rw (t, s)
+      let s : leb (climb n overlaps (min a b) (max a b)) (max a b) ≡ false = lt-leb _ _ h in rw (t, s)
 
   -- In either order of naming it is one chain.
   pub chain-symmetric : (a b : ℕ) → chainOf n overlaps a b ≡ chainOf n overlaps b a
@@ -52,8 +48,7 @@ module _ (n : ℕ) (overlaps : ℕ → ℕ → Bool) where
     where
       different : (a ≡ b → ⊥) → chainOf n overlaps a b ≡ chainOf n overlaps b a
       different d =
-          let p : min a b ≡ min b a = omega arith in
-          let q : max a b ≡ max b a = omega arith in
+          let p : min a b ≡ min b a = omega arith in let q : max a b ≡ max b a = omega arith in
           ⊎-elim (λ h. chain-none a b d h ∙ sym (chain-none b a (λ e. d (sym e)) (rw (← p, ← q) h)))
           (λ h. chain-walk a b d h ∙ (rw (p, q) (sym (chain-walk b a (λ e. d (sym e)) (rw (← p, ← q) h)))))
           (lt-or-ge (max a b) (climb n overlaps (min a b) (max a b)))
@@ -66,11 +61,9 @@ later-same a b l e = let t : eqb (firstEntry l) (max a b) ≡ true = eq-eqb (fir
 -- What leads from the later to the earlier joins the two.
 joins-of-later : (n : ℕ) (overlaps : ℕ → ℕ → Bool) (a b : ℕ) (l : List ℕ) → leads n overlaps (max a b) (min a b) l ≡ true → joins n overlaps a b l ≡ true
 joins-of-later n overlaps a b l t =
-    ⊎-elim (λ h. let p : max a b ≡ b = omega arith in
-    let q : min a b ≡ a = omega arith in
-    joins-swap n overlaps b a l (leads-joins n overlaps b a l (rw (p, q) at t))) (λ h. let p : max a b ≡ a = omega arith in
-    let q : min a b ≡ b = omega arith in
-    leads-joins n overlaps a b l (rw (p, q) at t)) (lt-or-ge a b)
+    ⊎-elim (λ h. let p : max a b ≡ b = omega arith in let q : min a b ≡ a = omega arith in
+    joins-swap n overlaps b a l (leads-joins n overlaps b a l (rw (p, q) at t)))
+    (λ h. let p : max a b ≡ a = omega arith in let q : min a b ≡ b = omega arith in leads-joins n overlaps a b l (rw (p, q) at t)) (lt-or-ge a b)
 
 module _ {n : ℕ} {overlaps : ℕ → ℕ → Bool} (ok : IntervalOrder n overlaps) where
   -- Windows that a chain leads from and to have one root.
@@ -87,17 +80,13 @@ module _ {n : ℕ} {overlaps : ℕ → ℕ → Bool} (ok : IntervalOrder n overl
 
   root-ends : (a b : ℕ) → root overlaps a ≡ root overlaps b → root overlaps (min a b) ≡ root overlaps (max a b)
   root-ends a b e =
-      ⊎-elim (λ h. let p : max a b ≡ b = omega arith in
-      let q : min a b ≡ a = omega arith in
-      rw (p, q) e) (λ h. let p : max a b ≡ a = omega arith in
-      let q : min a b ≡ b = omega arith in
-      rw (p, q) (sym e)) (lt-or-ge a b)
+      ⊎-elim (λ h. let p : max a b ≡ b = omega arith in let q : min a b ≡ a = omega arith in rw (p, q) e)
+      (λ h. let p : max a b ≡ a = omega arith in let q : min a b ≡ b = omega arith in rw (p, q) (sym e)) (lt-or-ge a b)
 
   -- In one component the chain is the best from the later window to the earlier.
   pub chain-best : (a b : ℕ) → a < n → b < n → root overlaps a ≡ root overlaps b → Best n overlaps (max a b) (min a b) (chainOf n overlaps a b)
   chain-best a b g l e =
-      ⊎-elim (λ s. let p : max a b ≡ a = omega arith in
-      let q : min a b ≡ a = omega arith in
+      ⊎-elim (λ s. let p : max a b ≡ a = omega arith in let q : min a b ≡ a = omega arith in
       rw (chain-same n overlaps a b s, p, q) (alone-best ok a g))
       (λ d. let r : climb n overlaps (min a b) (max a b) ≤ max a b = climb-le-position ok (min a b) (max a b) (root-ends a b e) in
       rw (chain-walk n overlaps a b d r) (walk-best ok (min a b) (max a b) (apart a b d) (omega arith) r)) (equal-or-not a b)
@@ -121,17 +110,16 @@ module _ {n : ℕ} {overlaps : ℕ → ℕ → Bool} (ok : IntervalOrder n overl
   -- The chain between two windows that some chain joins is a shortest, with the earliest window at each step.
   pub chain-earliest-shortest : (a b : ℕ) → a < n → b < n → Joined n overlaps a b → EarliestShortest n overlaps a b (chainOf n overlaps a b)
   chain-earliest-shortest a b g l j =
-      let c = chainOf n overlaps a b in
-      let best = chain-best a b g l (joined-root a b j) in
-      let later = later-leads n overlaps (ok .symmetric) a b in
+      let c = chainOf n overlaps a b in let best = chain-best a b g l (joined-root a b j) in
+      let joining = joins-of-later n overlaps a b c (best .leading) in let later = later-leads n overlaps (ok .symmetric) a b in
       record {
         shortest = record {
-          joining = joins-of-later n overlaps a b c (best .leading);
+          joining = joining;
           none-shorter = λ m t. omega (arith, best .fewest (fromLater a b m) (later m t), handovers-later a b m);
         };
         earliest = λ m s i h.
             rw (later-same a b c (leads-first n overlaps (max a b) (min a b) c (best .leading)))
-            (best .earliest (fromLater a b m) (later m (s .joining)) (omega (arith, handovers-later a b m, s .none-shorter c (joins-of-later n overlaps a b c (best .leading)))) i h);
+            (best .earliest (fromLater a b m) (later m (s .joining)) (omega (arith, handovers-later a b m, s .none-shorter c joining)) i h);
       }
 
   -- Its handovers are the least number.
@@ -164,9 +152,7 @@ module _ {n : ℕ} {overlaps : ℕ → ℕ → Bool} (ok : IntervalOrder n overl
   -- If no chain joins the two, it is empty.
   pub apart-chain-empty : (a b : ℕ) → a < n → b < n → (Joined n overlaps a b → ⊥) → chainOf n overlaps a b ≡ []
   apart-chain-empty a b g l d =
-      let u = min a b in
-      let v = max a b in
-      let differ : a ≡ b → ⊥ = λ e. d (root-joined a b g l (ap (root overlaps) e)) in
+      let u = min a b in let v = max a b in let differ : a ≡ b → ⊥ = λ e. d (root-joined a b g l (ap (root overlaps) e)) in
       ⊎-elim (λ h. chain-none n overlaps a b differ h)
       (λ h. absurd (⊎-elim (λ s. d (walk n overlaps u v, joins-of-later n overlaps a b (walk n overlaps u v) (walk-leads ok u v s (omega arith) h)))
       (λ s. differ (omega arith)) (lt-or-ge u v))) (lt-or-ge v (climb n overlaps u v))

@@ -2,15 +2,12 @@
 -- Vocabulary: Sound, accepted-sound, sound-accepted, accepted-validated, validated-accepted, offsets-sorted.
 -- Assumes nothing.
 use Prim.Native.Nat.{ℕ, zero, suc, _+_, _-_, _≤_, _<_}
-use mathlib.Core.Bool.{true}
-use mathlib.Core.Path.{_≡_, refl, _∙_}
-use mathlib.Core.List.{List, List·Memᴰ, List·Memᴰ·head, List·Memᴰ·tail}
+use mathlib.Core.{Bool.true, Path._≡_, Path.refl, Path._∙_, List.List, List.List·Memᴰ, List.List·Memᴰ·head, List.List·Memᴰ·tail}
 use native.Mathlib.Omega.{arith}
 use lib.ListN.{length}
 use borrow.Author.Tests.{leb-true, eqb-true, le-leb, eq-eqb}
 use Rattle.sequences.proofs.Tests.{and-intro}
-use Rattle.refusals.specs.declared.Refusal.{Refusal}
-use Rattle.refusals.specs.Question.{Question, question, each, allYes}
+use Rattle.refusals.specs.{declared.Refusal.Refusal, Question.Question, Question.question, Question.each, Question.allYes}
 use Rattle.refusals.proofs.Question.{all-first, first-all, all-member, all-append, append-left, append-right, all-each, each-all}
 use Rattle.plan.specs.declared.questions.Validation.the-variants.{Accepted, Refused}
 use Rattle.plan.specs.File.{headerLength, fileLength, planNumber, windowCount, windowAt, endOf}
@@ -39,9 +36,9 @@ pub record Sound (file : List ℕ) : Type 0 where
 pub accepted-sound : (file : List ℕ) → AcceptedPlan file → Sound file
 unfolding planQuestions fileQuestions windowQuestions question
 accepted-sound file ok =
-    let windows = each (windowsAsked file) 0 (windowCount file) in
-    let whole = all-member (fileQuestions file) (append-left (fileQuestions file) windows ok) in
-    let at : (v : ℕ) → v < windowCount file → (q : Question) → List·Memᴰ q (windowsAsked file v) → q .yes ≡ true = λ v h. all-member (windowsAsked file v) (all-each (windowsAsked file) 0 (windowCount file) (append-right (fileQuestions file) windows ok) v (omega arith) (omega arith)) in
+    let Q = windowsAsked file in let n = windowCount file in let r = append-right (fileQuestions file) (each Q 0 n) ok in
+    let whole = all-member (fileQuestions file) (append-left (fileQuestions file) (each Q 0 n) ok) in
+    let at : (v : ℕ) → v < n → (q : Question) → List·Memᴰ q (Q v) → q .yes ≡ true = λ v h. all-member (Q v) (all-each Q 0 n r v (omega arith) (omega arith)) in
     record {
       few = leb-true _ _ (whole _ (List·Memᴰ·tail (List·Memᴰ·head refl)));
       whole = eqb-true _ _ (whole _ (List·Memᴰ·tail (List·Memᴰ·tail (List·Memᴰ·head refl))));
@@ -53,10 +50,10 @@ accepted-sound file ok =
 pub sound-accepted : (file : List ℕ) → Sound file → AcceptedPlan file
 unfolding planQuestions fileQuestions windowQuestions question allYes
 sound-accepted file s =
-    all-append (fileQuestions file) (each (windowsAsked file) 0 (windowCount file)) ∙ and-intro (allYes (fileQuestions file)) _
-    (rw (le-leb headerLength (length file) (omega (arith, s .whole)), le-leb (windowCount file) greatestCount (s .few), eq-eqb (length file) (fileLength (windowCount file)) (s .whole)))
-    (each-all (windowsAsked file) 0 (windowCount file)
-    (λ v l h. rw (le-leb 1 (windowAt file v .length) (s .long v (omega arith)), le-leb (endOf (windowAt file v)) greatestEnd (s .early v (omega arith)), le-leb (offsetBefore file v) (windowAt file v .offset) (s .sorted v (omega arith)))))
+    let n = windowCount file in all-append (fileQuestions file) (each (windowsAsked file) 0 n) ∙ and-intro (allYes (fileQuestions file)) _
+    (rw (le-leb headerLength (length file) (omega (arith, s .whole)), le-leb n greatestCount (s .few), eq-eqb (length file) (fileLength n) (s .whole)))
+    (each-all (windowsAsked file) 0 n (λ v l h. let w = windowAt file v in let i : v < n = omega arith in
+    rw (le-leb 1 (w .length) (s .long v i), le-leb (endOf w) greatestEnd (s .early v i), le-leb (offsetBefore file v) (w .offset) (s .sorted v i))))
 
 offsets-rise : (file : List ℕ) → Sound file → (u k : ℕ) → u + k < windowCount file → windowAt file u .offset ≤ windowAt file (u + k) .offset
 unfolding offsetBefore
@@ -67,6 +64,4 @@ offsets-rise file s u (suc k) h =
 
 -- Offsets do not fall from any window to any later one.
 pub offsets-sorted : (file : List ℕ) → Sound file → (u v : ℕ) → u ≤ v → v < windowCount file → windowAt file u .offset ≤ windowAt file v .offset
-offsets-sorted file s u v le h =
-    let e : u + (v - u) ≡ v = omega arith in
-    rw e at (offsets-rise file s u (v - u) (omega arith))
+offsets-sorted file s u v le h = let e : u + (v - u) ≡ v = omega arith in rw e at (offsets-rise file s u (v - u) (omega arith))

@@ -1,16 +1,11 @@
 -- For calls that put questions 1 to 6 to a file by `validate` and then ask more.
 -- Assumes nothing.
 use Prim.Native.Nat.{ℕ}
-use mathlib.Core.Bool.{true, false}
-use mathlib.Core.Path.{_≡_, sym, _∙_}
-use mathlib.Core.Logic.{⊎-elim}
-use mathlib.Core.List.{List, [], _∷_, _++_}
+use mathlib.Core.{Bool.true, Bool.false, Path._≡_, Path.sym, Path._∙_, Logic.⊎-elim, List.List, List.[], List._∷_, List._++_}
 use native.Mathlib.Omega.{arith}
-use Rattle.refusals.specs.declared.Refusal.{Refusal}
-use Rattle.refusals.specs.Question.{Question, refusalFrom, from, firstNo}
+use Rattle.refusals.specs.{declared.Refusal.Refusal, Question.Question, Question.refusalFrom, Question.from, Question.firstNo}
 use Rattle.refusals.proofs.Question.{first-yes, first-no, first-append, first-from, first-map, first-cases}
-use Rattle.plan.specs.declared.questions.Validation.{Validation}
-use Rattle.plan.specs.declared.questions.Validation.the-variants.{Accepted, Refused}
+use Rattle.plan.specs.declared.questions.Validation.{Validation, the-variants.Accepted, the-variants.Refused}
 use Rattle.plan.specs.File.{planNumber, windowCount}
 use Rattle.plan.specs.Validation.{planQuestions, validateAnswerOf, AcceptedPlan}
 use Rattle.plan.proofs.Accepted.{validated-accepted}
@@ -21,14 +16,16 @@ afterValidation (Accepted plan windows) refused next = next
 afterValidation (Refused refusal) refused next = refused refusal
 
 -- The questions of a plan, and then others: the validation's answer, and then theirs.
-pub plan-first : {A : Type 0} (file : List ℕ) (more : List Question) (refused : Refusal → A) (accepted : A) → firstNo (planQuestions file ++ more) refused accepted ≡ afterValidation (validateAnswerOf file) refused (firstNo more refused accepted)
+pub plan-first : {A : Type 0} (file : List ℕ) (more : List Question) (refused : Refusal → A) (accepted : A) →
+    firstNo (planQuestions file ++ more) refused accepted ≡ afterValidation (validateAnswerOf file) refused (firstNo more refused accepted)
 unfolding validateAnswerOf
 plan-first file more refused accepted =
-    first-append (planQuestions file) more refused accepted
-    ∙ sym (first-map (λ v. afterValidation v refused (firstNo more refused accepted)) (planQuestions file) Refused (Accepted (planNumber file) (windowCount file)))
+    let whole = Accepted (planNumber file) (windowCount file) in first-append (planQuestions file) more refused accepted
+    ∙ sym (first-map (λ v. afterValidation v refused (firstNo more refused accepted)) (planQuestions file) Refused whole)
 
 -- A validation that is accepted is so with the file's own numbers.
-pub accepted-numbers : (file : List ℕ) (plan windows : ℕ) → Accepted plan windows ≡ validateAnswerOf file → (plan ≡ planNumber file) × (windows ≡ windowCount file)
+pub accepted-numbers : (file : List ℕ) (plan windows : ℕ) → Accepted plan windows ≡ validateAnswerOf file →
+    (plan ≡ planNumber file) × (windows ≡ windowCount file)
 unfolding validateAnswerOf
 accepted-numbers file plan windows e =
     ⊎-elim (λ same. (cc, cc)) (λ refusal. let z : _≡_ {A = ℕ} 0 1 = cc in absurd (omega arith))
@@ -36,20 +33,21 @@ accepted-numbers file plan windows e =
 
 -- So the file is that of an accepted plan.
 pub accepted-plan : (file : List ℕ) (plan windows : ℕ) → Accepted plan windows ≡ validateAnswerOf file → AcceptedPlan file
-accepted-plan file plan windows e =
-    let numbers = accepted-numbers file plan windows e in
-    validated-accepted file (sym e ∙ cc)
+accepted-plan file plan windows e = let numbers = accepted-numbers file plan windows e in validated-accepted file (sym e ∙ cc)
 
 -- The answer of a call that validates first and then asks more, by what the validation answered.
-module _ {A : Type 0} (file : List ℕ) (more : List Question) (refused : Refusal → A) (accepted : A) (answer : Validation) (validated : answer ≡ validateAnswerOf file) where
+module _ {A : Type 0} (file : List ℕ) (more : List Question) (refused : Refusal → A) (accepted : A)
+    (answer : Validation) (validated : answer ≡ validateAnswerOf file) where
   pub plan-refused : (refusal : Refusal) → answer ≡ Refused refusal → refused refusal ≡ firstNo (planQuestions file ++ more) refused accepted
   plan-refused refusal e = sym (plan-first file more refused accepted ∙ rw (← validated, e))
 
-  pub plan-accepted : (plan windows : ℕ) → answer ≡ Accepted plan windows → firstNo more refused accepted ≡ firstNo (planQuestions file ++ more) refused accepted
+  pub plan-accepted : (plan windows : ℕ) → answer ≡ Accepted plan windows →
+      firstNo more refused accepted ≡ firstNo (planQuestions file ++ more) refused accepted
   plan-accepted plan windows e = sym (plan-first file more refused accepted ∙ rw (← validated, e))
 
 -- The same where one question more is asked.
-module _ {A : Type 0} (file : List ℕ) (q : Question) (refused : Refusal → A) (accepted : A) (answer : Validation) (validated : answer ≡ validateAnswerOf file) (plan windows : ℕ) (e : answer ≡ Accepted plan windows) where
+module _ {A : Type 0} (file : List ℕ) (q : Question) (refused : Refusal → A) (accepted : A)
+    (answer : Validation) (validated : answer ≡ validateAnswerOf file) (plan windows : ℕ) (e : answer ≡ Accepted plan windows) where
   pub one-more-no : q .yes ≡ false → refused (q .refusal) ≡ firstNo (planQuestions file ++ (q ∷ [])) refused accepted
   one-more-no t = sym (first-no [] refused accepted q t) ∙ plan-accepted file (q ∷ []) refused accepted answer validated plan windows e
 
@@ -58,8 +56,9 @@ module _ {A : Type 0} (file : List ℕ) (q : Question) (refused : Refusal → A)
   one-more-yes t = sym (first-yes [] refused accepted q t) ∙ plan-accepted file (q ∷ []) refused accepted answer validated plan windows e
 
 -- The questions to a call's second file are answered by its validation, with the second input at fault.
-pub plan-second : {A : Type 0} (file : List ℕ) (refused : Refusal → A) (accepted : A) → firstNo (from 1 (planQuestions file)) refused accepted ≡ afterValidation (validateAnswerOf file) (λ r. refused (refusalFrom 1 r)) accepted
+pub plan-second : {A : Type 0} (file : List ℕ) (refused : Refusal → A) (accepted : A) →
+    firstNo (from 1 (planQuestions file)) refused accepted ≡ afterValidation (validateAnswerOf file) (λ r. refused (refusalFrom 1 r)) accepted
 unfolding validateAnswerOf
 plan-second file refused accepted =
-    first-from 1 (planQuestions file) refused accepted
-    ∙ sym (first-map (λ v. afterValidation v (λ r. refused (refusalFrom 1 r)) accepted) (planQuestions file) Refused (Accepted (planNumber file) (windowCount file)))
+    let whole = Accepted (planNumber file) (windowCount file) in first-from 1 (planQuestions file) refused accepted
+    ∙ sym (first-map (λ v. afterValidation v (λ r. refused (refusalFrom 1 r)) accepted) (planQuestions file) Refused whole)

@@ -3,20 +3,16 @@
 -- Vocabulary: windows-few, windows-order, validated-windows, window-within, bound-fits, own-offset.
 -- Assumes nothing.
 use Prim.Native.Nat.{ℕ, _+_, _≤_, _<_}
-use mathlib.Core.Path.{_≡_, sym, _∙_}
-use mathlib.Core.List.{List}
+use mathlib.Core.{Path._≡_, Path.sym, Path._∙_, List.List}
 use native.Mathlib.Omega.{arith}
 use Rattle.interval_graph.specs.Order.{IntervalOrder}
-use Rattle.plan.specs.declared.questions.Validation.{Validation}
-use Rattle.plan.specs.declared.questions.Validation.the-variants.{Accepted}
+use Rattle.plan.specs.declared.questions.Validation.{Validation, the-variants.Accepted}
 use lib.ListN.{length}
 use Rattle.plan.specs.File.{windowLength, windowPlace, windowCount, windowAt, endOf}
 use Rattle.plan.specs.Overlap.{overlaps, boundOf}
 use Rattle.plan.specs.Validation.{greatestCount, AcceptedPlan, validateAnswerOf}
 use Rattle.plan.specs.AcceptedWindows.{AcceptedWindows}
-use Rattle.plan.proofs.Accepted.{accepted-sound}
-use Rattle.plan.proofs.Overlap.{interval-order}
-use Rattle.plan.proofs.Calls.{accepted-numbers, accepted-plan}
+use Rattle.plan.proofs.{Accepted.accepted-sound, Overlap.interval-order, Calls.accepted-numbers, Calls.accepted-plan}
 
 module _ {file : List ℕ} {windows : ℕ} (p : AcceptedWindows file windows) where
   -- An accepted plan has at most so many windows, so tables of that many entries hold them.

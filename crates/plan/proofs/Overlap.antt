@@ -5,17 +5,13 @@
 -- Assumes nothing.
 use Prim.Native.Nat.{ℕ, _-_, _≤_, _<_, min, max}
 use mathlib.Core.Bool.{true, false, not, _&&_}
-use mathlib.Core.Path.{_≡_, refl, sym, _∙_}
-use mathlib.Core.Logic.{⊎-elim, _↔_, _≢_}
-use mathlib.Core.List.{List}
+use mathlib.Core.{Path._≡_, Path.refl, Path.sym, Path._∙_, Logic.⊎-elim, Logic._↔_, Logic._≢_, List.List}
 use native.Mathlib.Omega.{arith}
 use lib.Dec.{ltb, leb, eqb}
 use borrow.Author.Tests.{ltb-true, leb-true, eqb-false, lt-ltb, le-leb, ne-eqb, not-true}
-use Rattle.sequences.proofs.Search.{count-range}
-use Rattle.sequences.proofs.Tests.{truth, and-left, and-right, and-intro, iff-equal}
+use Rattle.sequences.proofs.{Search.count-range, Tests.truth, Tests.and-left, Tests.and-right, Tests.and-intro, Tests.iff-equal}
 use Rattle.interval_graph.specs.Order.{IntervalOrder}
-use Rattle.plan.specs.declared.windows.Window.{Window}
-use Rattle.plan.specs.File.{windowCount, windowAt, endOf}
+use Rattle.plan.specs.{declared.windows.Window.Window, File.windowCount, File.windowAt, File.endOf}
 use Rattle.plan.specs.Overlap.{covers, sharedMinutes, minimumHandover, overlaps, boundOf, overlapInOrder}
 use Rattle.plan.specs.Validation.{AcceptedPlan}
 use Rattle.plan.proofs.Accepted.{Sound, accepted-sound, offsets-sorted}
@@ -56,7 +52,8 @@ unfolding overlaps
 minimum-overlaps file u v other h = rw (ne-eqb u v other) (le-leb _ _ h)
 
 -- Two windows overlap exactly if they are two and some minute is covered by both.
-pub overlaps-shares : (file : List ℕ) (u v : ℕ) → (overlaps file u v ≡ true) ↔ ((u ≢ v) × ((m : ℕ) × (covers (windowAt file u) m ≡ true) × (covers (windowAt file v) m ≡ true)))
+pub overlaps-shares : (file : List ℕ) (u v : ℕ) →
+    (overlaps file u v ≡ true) ↔ ((u ≢ v) × ((m : ℕ) × (covers (windowAt file u) m ≡ true) × (covers (windowAt file v) m ≡ true)))
 overlaps-shares file u v = (shares, meet)
   where
     a : Window
@@ -83,7 +80,8 @@ overlaps-shares file u v = (shares, meet)
         (omega (arith, shared-minutes a b, covers-minute a (h .1 .0) (h .1 .1), covers-minute b (h .1 .0) (h .1 .2)))
 
 -- In an accepted plan, for u before v: v begins before the bound of u.
-pub overlaps-bound : (file : List ℕ) → AcceptedPlan file → (u v : ℕ) → u < v → v < windowCount file → overlaps file u v ≡ overlapInOrder (windowAt file u) (windowAt file v)
+pub overlaps-bound : (file : List ℕ) → AcceptedPlan file → (u v : ℕ) → u < v → v < windowCount file →
+    overlaps file u v ≡ overlapInOrder (windowAt file u) (windowAt file v)
 unfolding overlapInOrder boundOf endOf
 overlaps-bound file ok u v before within =
     iff-equal (overlaps file u v) (ltb (b .offset) (boundOf a))
@@ -104,11 +102,11 @@ overlaps-bound file ok u v before within =
     sorted = offsets-sorted file s u v (omega arith) within
 
 -- "For u before v this means: end of u is greater than offset of v", in an accepted plan.
-pub overlaps-end : (file : List ℕ) → AcceptedPlan file → (u v : ℕ) → u < v → v < windowCount file → overlaps file u v ≡ ltb (windowAt file v .offset) (endOf (windowAt file u))
+pub overlaps-end : (file : List ℕ) → AcceptedPlan file → (u v : ℕ) → u < v → v < windowCount file →
+    overlaps file u v ≡ ltb (windowAt file v .offset) (endOf (windowAt file u))
 unfolding overlapInOrder boundOf
 overlaps-end file ok u v before within =
-    let e : boundOf (windowAt file u) ≡ endOf (windowAt file u) = omega arith in
-    overlaps-bound file ok u v before within ∙ rw e
+    let e : boundOf (windowAt file u) ≡ endOf (windowAt file u) = omega arith in overlaps-bound file ok u v before within ∙ rw e
 
 -- Windows that touch do not overlap: end of u equal to offset of v is no minute shared.
 pub touching-apart : (file : List ℕ) (u v : ℕ) → endOf (windowAt file u) ≡ windowAt file v .offset → overlaps file u v ≡ false

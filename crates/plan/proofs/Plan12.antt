@@ -2,8 +2,7 @@
 -- alone.
 -- Assumes nothing.
 use Prim.Native.Nat.{ℕ}
-use mathlib.Core.Path.{_≡_, refl}
-use mathlib.Core.List.{List, [], _∷_, flatMap}
+use mathlib.Core.{Path._≡_, Path.refl, List.List, List.[], List._∷_, List.flatMap}
 use Rattle.sequences.specs.Table.{table}
 use Rattle.interval_graph.proofs.Plan12.{definitions, row, listing}
 use Rattle.wire.specs.LittleEndian.{le16, le32, bytes16, bytes32}
@@ -23,7 +22,8 @@ file = fileOf 12 (window 0 10 ∷ window 2 3 ∷ window 4 12 ∷ window 9 2 ∷ 
 
 -- What a computation on the file opens.
 unfoldable pub meaning : Unit {0}
-unfolding definitions file fileOf flatMap headerBytes windowBytes bytes16 bytes32 le16 le32 question about each firstNo planNumber windowCount windowOf windowAt endOf covers sharedMinutes overlaps offsetBefore windowQuestions fileQuestions planQuestions validateAnswerOf
+unfolding definitions file fileOf flatMap headerBytes windowBytes bytes16 bytes32 le16 le32 question about each firstNo
+    planNumber windowCount windowOf windowAt endOf covers sharedMinutes overlaps offsetBefore windowQuestions fileQuestions planQuestions validateAnswerOf
 meaning = tt
 
 pub plan-12-accepted : validateAnswerOf file ≡ Accepted 12 7

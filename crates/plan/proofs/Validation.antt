@@ -2,10 +2,8 @@
 -- Vocabulary: window-at, ask-*, refused-*, windows-answer, Passed, passed-*.
 -- Assumes nothing.
 use Prim.Native.Nat.{ℕ, _+_, _-_, _≤_, _<_}
-use mathlib.Core.Path.{_≡_, refl, ap}
-use mathlib.Core.List.{List}
-use native.Mathlib.Nat.{add-sub-cancel-left}
-use native.Mathlib.Numerals.{add-one}
+use mathlib.Core.{Path._≡_, Path.refl, Path.ap, List.List}
+use native.Mathlib.{Nat.add-sub-cancel-left, Numerals.add-one}
 use lib.ListN.{length, take, drop}
 use borrow.Author.Tests.{le-leb, lt-leb, eq-eqb, ne-eqb}
 use Rattle.refusals.specs.declared.Refusal.{Refusal}
@@ -18,7 +16,8 @@ use Rattle.plan.specs.File.{headerLength, windowLength, fileLength, wind
 use Rattle.plan.specs.Validation.{greatestCount, greatestEnd, offsetBefore, windowQuestions, fileQuestions, planQuestions, validateAnswerOf}
 
 -- The window in the eight-byte part from the middle of the file is the window at its position.
-pub window-at : (file : List ℕ) (v : ℕ) (w : Window) → w ≡ windowOf (take (windowPlace v + windowLength - windowPlace v) (drop (windowPlace v) file)) → w ≡ windowAt file v
+pub window-at : (file : List ℕ) (v : ℕ) (w : Window) →
+    w ≡ windowOf (take (windowPlace v + windowLength - windowPlace v) (drop (windowPlace v) file)) → w ≡ windowAt file v
 unfolding windowAt
 window-at file v w e = rw (add-sub-cancel-left (windowPlace v) windowLength) at e
 
@@ -58,7 +57,8 @@ module _ (file : List ℕ) (n : ℕ) (named : n ≡ windowCount file) (header : 
         rw (← named, le-leb headerLength (length file) header, le-leb n greatestCount few, ne-eqb (length file) (fileLength n) other)
 
     -- Where they are all answered "yes", those of the windows give the answer.
-    pub windows-answer : (plan : ℕ) → plan ≡ planNumber file → length file ≡ fileLength n → firstNo (each (windowsAsked file) 0 n) Refused (Accepted plan n) ≡ validateAnswerOf file
+    pub windows-answer : (plan : ℕ) → plan ≡ planNumber file → length file ≡ fileLength n →
+        firstNo (each (windowsAsked file) 0 n) Refused (Accepted plan n) ≡ validateAnswerOf file
     unfolding validateAnswerOf planQuestions fileQuestions firstNo question
     windows-answer plan number whole =
         rw (← named, ← number, le-leb headerLength (length file) header, le-leb n greatestCount few, eq-eqb (length file) (fileLength n) whole)
@@ -77,7 +77,8 @@ module _ (file : List ℕ) (plan windows : ℕ) where
   unfolding offsetBefore
   passed-start = record { previous = refl; asking = asking-start (windowsAsked file) Refused (Accepted plan windows) windows }
 
-  pub passed-end : (before v : ℕ) → windows ≤ v → Passed file plan windows before v → Accepted plan windows ≡ firstNo (each (windowsAsked file) 0 windows) Refused (Accepted plan windows)
+  pub passed-end : (before v : ℕ) → windows ≤ v → Passed file plan windows before v →
+      Accepted plan windows ≡ firstNo (each (windowsAsked file) 0 windows) Refused (Accepted plan windows)
   passed-end before v done s = asking-end (windowsAsked file) Refused (Accepted plan windows) windows v done (s .asking)
 
   module _ (before v : ℕ) (w : Window) (left : v < windows) (s : Passed file plan windows before v) (read : w ≡ windowAt file v) where
@@ -89,6 +90,7 @@ module _ (file : List ℕ) (plan windows : ℕ) where
           asking = asking-turn (windowsAsked file) Refused (Accepted plan windows) windows v left (s .asking) (rw (← s .previous, ← read) h);
         }
 
-    pub passed-refused : (r : Refusal) → asked.Refused r ≡ askedOf (windowQuestions before w) → Refused (refusalAbout v r) ≡ firstNo (each (windowsAsked file) 0 windows) Refused (Accepted plan windows)
+    pub passed-refused : (r : Refusal) → asked.Refused r ≡ askedOf (windowQuestions before w) →
+        Refused (refusalAbout v r) ≡ firstNo (each (windowsAsked file) 0 windows) Refused (Accepted plan windows)
     passed-refused r h =
         asking-refused (windowsAsked file) Refused (Accepted plan windows) windows v left (s .asking) r (rw (← s .previous, ← read) h)

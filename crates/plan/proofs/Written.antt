@@ -4,22 +4,19 @@
 -- accepted-fileOf.
 -- Assumes nothing.
 use Prim.Native.Nat.{ℕ, suc, _+_, _*_, _/_, _%_, _≤_, _<_}
-use mathlib.Core.Bool.{Bool, true, _&&_}
-use mathlib.Core.Path.{_≡_, refl, sym, ap, _∙_}
+use mathlib.Core.{Bool.Bool, Bool.true, Bool._&&_, Path._≡_, Path.refl, Path.sym, Path.ap, Path._∙_}
 use mathlib.Core.List.{List, [], _∷_, _++_, append-nil, flatMap}
 use native.Mathlib.Omega.{arith}
-use lib.ListN.{length, getD, take, drop, length-append}
-use lib.Seq.{drop-append-add}
-use lib.Dec.{leb}
+use lib.{ListN.length, ListN.getD, ListN.take, ListN.drop, ListN.length-append, Seq.drop-append-add, Dec.leb}
 use borrow.Author.Tests.{le-leb, eq-eqb}
-use Rattle.sequences.proofs.Tests.{and-true-right}
-use Rattle.sequences.proofs.Records.{length-records, record-part}
+use Rattle.sequences.proofs.{Tests.and-true-right, Records.length-records, Records.record-part}
 use Rattle.wire.specs.LittleEndian.{le16, le32, bytes16, bytes32, placed}
 use Rattle.wire.proofs.LittleEndian.{placed-behind, placed-short}
 use Rattle.refusals.specs.Question.{question, about, each, allYes}
 use Rattle.refusals.proofs.Question.{all-append, all-about}
 use Rattle.plan.specs.declared.windows.Window.{Window}
-use Rattle.plan.specs.File.{headerLength, windowLength, fileLength, windowPlace, planNumber, windowCount, windowOf, windowAt, headerBytes, windowBytes, fileOf}
+use Rattle.plan.specs.File.{headerLength, windowLength, fileLength, windowPlace, planNumber, windowCount, windowOf, windowAt}
+use Rattle.plan.specs.File.{headerBytes, windowBytes, fileOf}
 use Rattle.plan.specs.Validation.{greatestCount, offsetBefore, windowQuestions, fileQuestions, planQuestions}
 use Rattle.plan.proofs.Validation.{windowsAsked}
 
@@ -37,7 +34,8 @@ windowOf-windowBytes w = rw (whole (w .offset), whole (w .length))
 
 -- A window's two numbers, written one behind the other.
 module _ (w : Window) (l : List ℕ) (at : ℕ) where
-  pub window-placed : (a b : List ℕ) → at + windowLength ≤ length l → a ≡ placed l at (bytes32 (w .offset)) → b ≡ placed a (at + 4) (bytes32 (w .length)) → b ≡ placed l at (windowBytes w)
+  pub window-placed : (a b : List ℕ) → at + windowLength ≤ length l → a ≡ placed l at (bytes32 (w .offset)) →
+      b ≡ placed a (at + 4) (bytes32 (w .length)) → b ≡ placed l at (windowBytes w)
   unfolding windowBytes bytes32
   window-placed a b room first second = rw (second, first) (placed-behind l at (bytes32 (w .offset)) (bytes32 (w .length)) (omega arith))
 
@@ -69,8 +67,7 @@ module _ (plan : ℕ) (windows : List Window) where
   window-fileOf v d h =
       let header = headerBytes plan (length windows) in
       let place : windowPlace v ≡ length header + windowLength * v = omega (arith, length-headerBytes plan (length windows)) in
-      let part : List ℕ → List ℕ = take windowLength in
-      ap windowOf (ap (λ i. part (drop i (header ++ flatMap windowBytes windows))) place
+      let part : List ℕ → List ℕ = take windowLength in ap windowOf (ap (λ i. part (drop i (header ++ flatMap windowBytes windows))) place
       ∙ (ap part (drop-append-add header (flatMap windowBytes windows) (windowLength * v))
       ∙ rw append-nil at (record-part windowBytes windowLength length-windowBytes windows v d [] h)))
       ∙ windowOf-windowBytes (getD windows v d)
@@ -81,19 +78,19 @@ windowsPass before [] = true
 windowsPass before (w ∷ later) = allYes (windowQuestions before w) && windowsPass (w .offset) later
 
 -- One window more, that is read from a file.
-window-more : (file : List ℕ) (v : ℕ) (w : Window) (later : List Window) → windowAt file v ≡ w → (allYes (windowsAsked file v) && windowsPass (offsetBefore file (suc v)) later) ≡ (allYes (windowQuestions (offsetBefore file v) w) && windowsPass (w .offset) later)
+window-more : (file : List ℕ) (v : ℕ) (w : Window) (later : List Window) → windowAt file v ≡ w →
+    (allYes (windowsAsked file v) && windowsPass (offsetBefore file (suc v)) later)
+    ≡ (allYes (windowQuestions (offsetBefore file v) w) && windowsPass (w .offset) later)
 unfolding offsetBefore
-window-more file v w later here =
-    let next : offsetBefore file (suc v) ≡ w .offset = ap (λ (x : Window). x .offset) here in
-    rw (next, here)
+window-more file v w later here = let next : offsetBefore file (suc v) ≡ w .offset = ap (λ (x : Window). x .offset) here in rw (next, here)
 
 -- The questions of a file's windows from v on, where they are those of a list.
-windows-asked : (file : List ℕ) (v : ℕ) (windows : List Window) (d : Window) → ((i : ℕ) → i < length windows → windowAt file (v + i) ≡ getD windows i d) → allYes (each (windowsAsked file) v (length windows)) ≡ windowsPass (offsetBefore file v) windows
+windows-asked : (file : List ℕ) (v : ℕ) (windows : List Window) (d : Window) → ((i : ℕ) → i < length windows → windowAt file (v + i) ≡ getD windows i d) →
+    allYes (each (windowsAsked file) v (length windows)) ≡ windowsPass (offsetBefore file v) windows
 unfolding windowsPass each allYes
 windows-asked file v [] d reads = refl
 windows-asked file v (w ∷ later) d reads =
-    let stay : v + 0 ≡ v = omega arith in
-    let here : windowAt file v ≡ w = rw stay at (reads 0 (omega arith)) in
+    let stay : v + 0 ≡ v = omega arith in let here : windowAt file v ≡ w = rw stay at (reads 0 (omega arith)) in
     let rest = windows-asked file (suc v) later d (λ i h. let on : suc v + i ≡ v + suc i = omega arith in rw on (reads (suc i) (omega arith))) in
     all-append (about v (windowsAsked file v)) (each (windowsAsked file) (suc v) (length later))
     ∙ rw (all-about v (windowsAsked file v), rest) (window-more file v w later here)
@@ -106,11 +103,11 @@ file-asked file n counted long =
     (and-true-right (leb n greatestCount) true refl)
 
 -- The file is that of an accepted plan exactly if it has few enough windows and they pass.
-pub accepted-fileOf : (plan : ℕ) (windows : List Window) (d : Window) → allYes (planQuestions (fileOf plan windows)) ≡ (leb (length windows) greatestCount && windowsPass 0 windows)
+pub accepted-fileOf : (plan : ℕ) (windows : List Window) (d : Window) →
+    allYes (planQuestions (fileOf plan windows)) ≡ (leb (length windows) greatestCount && windowsPass 0 windows)
 unfolding planQuestions offsetBefore
 accepted-fileOf plan windows d =
-    let file = fileOf plan windows in
-    all-append (fileQuestions file) (each (windowsAsked file) 0 (windowCount file))
+    let file = fileOf plan windows in all-append (fileQuestions file) (each (windowsAsked file) 0 (windowCount file))
     ∙ rw (file-asked file (length windows) (count-fileOf plan windows) (length-fileOf plan windows), count-fileOf plan windows)
     (ap (λ t. leb (length windows) greatestCount && t)
     (windows-asked file 0 windows d (λ i h. let e : 0 + i ≡ i = omega arith in rw e (window-fileOf plan windows i d h))))

@@ -3,18 +3,14 @@
 -- Vocabulary: first-*, asked-*, all-*, each-*, Asking, asking-*.
 -- Assumes nothing.
 use Prim.Native.Nat.{ℕ, zero, suc, _+_, _-_, _≤_, _<_}
-use mathlib.Core.Bool.{true, false, _&&_}
-use mathlib.Core.Path.{_≡_, refl, sym, _∙_}
-use mathlib.Core.Logic.{_⊎_, inl, inr, ⊎-elim}
+use mathlib.Core.{Bool.true, Bool.false, Bool._&&_, Path._≡_, Path.refl, Path.sym, Path._∙_, Logic._⊎_, Logic.inl, Logic.inr, Logic.⊎-elim}
 use mathlib.Core.List.{List, [], _∷_, _++_, List·Memᴰ, List·Memᴰ·head, List·Memᴰ·tail, List·Memᴰ·not-nil, List·Memᴰ·cases-cons}
-use native.Mathlib.Omega.{arith}
-use native.Mathlib.Numerals.{add-one}
+use native.Mathlib.{Omega.arith, Numerals.add-one}
 use borrow.Author.Tests.{ltb-true, lt-ltb, le-ltb}
 use Rattle.sequences.proofs.Tests.{truth, and-left, and-right, and-intro, lt-or-ge}
-use Rattle.refusals.specs.declared.Refusal.{Refusal}
-use Rattle.refusals.specs.declared.Asked.{Asked}
-use Rattle.refusals.specs.declared.Asked.the-variants.{Passed, Refused}
-use Rattle.refusals.specs.Question.{Question, refusalBy, refusalFrom, refusalAbout, question, from, about, each, firstNo, allYes, askedOf, positionQuestion, positionQuestions}
+use Rattle.refusals.specs.declared.{Refusal.Refusal, Asked.Asked, Asked.the-variants.Passed, Asked.the-variants.Refused}
+use Rattle.refusals.specs.Question.{Question, refusalBy, refusalFrom, refusalAbout, question, from, about, each, firstNo, allYes}
+use Rattle.refusals.specs.Question.{askedOf, positionQuestion, positionQuestions}
 
 module _ {A : Type 0} (later : List Question) (refused : Refusal → A) (accepted : A) where
   -- A question that is answered "yes" is passed over.
@@ -28,37 +24,43 @@ module _ {A : Type 0} (later : List Question) (refused : Refusal → A) (accepte
   first-no q t = rw t
 
 -- Questions after others are what the first ones accept.
-pub first-append : {A : Type 0} (qs later : List Question) (refused : Refusal → A) (accepted : A) → firstNo (qs ++ later) refused accepted ≡ firstNo qs refused (firstNo later refused accepted)
+pub first-append : {A : Type 0} (qs later : List Question) (refused : Refusal → A) (accepted : A) →
+    firstNo (qs ++ later) refused accepted ≡ firstNo qs refused (firstNo later refused accepted)
 unfolding firstNo
 first-append [] later refused accepted = refl
 first-append (q ∷ qs) later refused accepted = rw (first-append qs later refused accepted)
 
 -- Questions put to an input refuse as they would, with that input.
-pub first-from : {A : Type 0} (input : ℕ) (qs : List Question) (refused : Refusal → A) (accepted : A) → firstNo (from input qs) refused accepted ≡ firstNo qs (λ r. refused (refusalFrom input r)) accepted
+pub first-from : {A : Type 0} (input : ℕ) (qs : List Question) (refused : Refusal → A) (accepted : A) →
+    firstNo (from input qs) refused accepted ≡ firstNo qs (λ r. refused (refusalFrom input r)) accepted
 unfolding firstNo from
 first-from input [] refused accepted = refl
 first-from input (q ∷ qs) refused accepted = rw (first-from input qs refused accepted)
 
 -- Questions about a window refuse as they would, with its position.
-pub first-about : {A : Type 0} (position : ℕ) (qs : List Question) (refused : Refusal → A) (accepted : A) → firstNo (about position qs) refused accepted ≡ firstNo qs (λ r. refused (refusalAbout position r)) accepted
+pub first-about : {A : Type 0} (position : ℕ) (qs : List Question) (refused : Refusal → A) (accepted : A) →
+    firstNo (about position qs) refused accepted ≡ firstNo qs (λ r. refused (refusalAbout position r)) accepted
 unfolding firstNo about
 first-about position [] refused accepted = refl
 first-about position (q ∷ qs) refused accepted = rw (first-about position qs refused accepted)
 
 -- What is made of an answer is the answer made of its cases.
-pub first-map : {A B : Type 0} (f : A → B) (qs : List Question) (refused : Refusal → A) (accepted : A) → f (firstNo qs refused accepted) ≡ firstNo qs (λ r. f (refused r)) (f accepted)
+pub first-map : {A B : Type 0} (f : A → B) (qs : List Question) (refused : Refusal → A) (accepted : A) →
+    f (firstNo qs refused accepted) ≡ firstNo qs (λ r. f (refused r)) (f accepted)
 unfolding firstNo
 first-map f [] refused accepted = refl
 first-map f (q ∷ qs) refused accepted = ⊎-elim (λ t. rw t (first-map f qs refused accepted)) (λ t. rw t) (truth (q .yes))
 
 -- The answer is what is accepted, or some refusal.
-pub first-cases : {A : Type 0} (qs : List Question) (refused : Refusal → A) (accepted : A) → (firstNo qs refused accepted ≡ accepted) ⊎ ((r : Refusal) × (firstNo qs refused accepted ≡ refused r))
+pub first-cases : {A : Type 0} (qs : List Question) (refused : Refusal → A) (accepted : A) →
+    (firstNo qs refused accepted ≡ accepted) ⊎ ((r : Refusal) × (firstNo qs refused accepted ≡ refused r))
 unfolding firstNo
 first-cases [] refused accepted = inl refl
 first-cases (q ∷ qs) refused accepted = ⊎-elim (λ t. rw t (first-cases qs refused accepted)) (λ t. inr (q .refusal, rw t)) (truth (q .yes))
 
 -- An answer that is no refusal is what is accepted.
-pub answer-accepted : {A : Type 0} (qs : List Question) (refused : Refusal → A) (accepted a : A) → ((r : Refusal) → refused r ≡ a → ⊥) → firstNo qs refused accepted ≡ a → accepted ≡ a
+pub answer-accepted : {A : Type 0} (qs : List Question) (refused : Refusal → A) (accepted a : A) → ((r : Refusal) → refused r ≡ a → ⊥) →
+    firstNo qs refused accepted ≡ a → accepted ≡ a
 answer-accepted qs refused accepted a apart e =
     ⊎-elim (λ same. sym same ∙ e) (λ r. absurd (apart (r .0) (sym (r .1) ∙ e))) (first-cases qs refused accepted)
 
@@ -67,7 +69,8 @@ abbrev pub afterAsked : {A : Type 0} → Asked → (Refusal → A) → A → A
 afterAsked Passed refused accepted = accepted
 afterAsked (Refused r) refused accepted = refused r
 
-pub asked-first : {A : Type 0} (qs : List Question) (refused : Refusal → A) (accepted : A) → firstNo qs refused accepted ≡ afterAsked (askedOf qs) refused accepted
+pub asked-first : {A : Type 0} (qs : List Question) (refused : Refusal → A) (accepted : A) →
+    firstNo qs refused accepted ≡ afterAsked (askedOf qs) refused accepted
 unfolding askedOf
 asked-first qs refused accepted = sym (first-map (λ a. afterAsked a refused accepted) qs Refused Passed)
 
@@ -91,7 +94,8 @@ all-first (q ∷ qs) refused accepted t =
     first-yes qs refused accepted q (and-left (q .yes) (allYes qs) t) ∙ all-first qs refused accepted (and-right (q .yes) (allYes qs) t)
 
 -- Where the answer is what is accepted, and no refusal is that, no question is answered "no".
-pub first-all : {A : Type 0} (qs : List Question) (refused : Refusal → A) (accepted : A) → ((r : Refusal) → refused r ≡ accepted → ⊥) → firstNo qs refused accepted ≡ accepted → allYes qs ≡ true
+pub first-all : {A : Type 0} (qs : List Question) (refused : Refusal → A) (accepted : A) → ((r : Refusal) → refused r ≡ accepted → ⊥) →
+    firstNo qs refused accepted ≡ accepted → allYes qs ≡ true
 unfolding allYes
 first-all [] refused accepted apart e = refl
 first-all (q ∷ qs) refused accepted apart e =
@@ -162,7 +166,8 @@ module _ {A : Type 0} (questions : ℕ → List Question) (refused : Refusal →
 
   module _ (v : ℕ) (inside : v < n) (s : Asking questions refused accepted n v) where
     -- What is left, by what is answered about the window at v.
-    here : firstNo (each questions v (n - v)) refused accepted ≡ afterAsked (askedOf (questions v)) (λ r. refused (refusalAbout v r)) (firstNo (each questions (v + 1) (n - (v + 1))) refused accepted)
+    here : firstNo (each questions v (n - v)) refused accepted ≡ afterAsked (askedOf (questions v)) (λ r. refused (refusalAbout v r))
+        (firstNo (each questions (v + 1) (n - (v + 1))) refused accepted)
     unfolding each
     here =
         let e : n - v ≡ suc (n - (v + 1)) = omega arith in
@@ -195,5 +200,6 @@ module _ (first second windows : ℕ) where
   pub passed-within : Passed ≡ askedOf (positionQuestions first second windows) → (first < windows) × (second < windows)
   unfolding askedOf positionQuestions positionQuestion question from
   passed-within e =
-      let all = all-member (positionQuestions first second windows) (first-all (positionQuestions first second windows) Refused Passed (λ r s. let z : _≡_ {A = ℕ} 0 1 = cc in omega arith) (sym e)) in
+      let qs = positionQuestions first second windows in
+      let all = all-member qs (first-all qs Refused Passed (λ r s. let z : _≡_ {A = ℕ} 0 1 = cc in omega arith) (sym e)) in
       (ltb-true _ _ (all _ (List·Memᴰ·head refl)), ltb-true _ _ (all _ (List·Memᴰ·tail (List·Memᴰ·head refl))))

@@ -4,16 +4,12 @@
 -- Vocabulary: Written.
 -- Assumes nothing.
 use Prim.Native.Nat.{ℕ, zero, suc, _+_, _-_, _≤_, _<_}
-use mathlib.Core.Bool.{Bool, true, false}
-use mathlib.Core.Path.{_≡_, refl, sym, ap, _∙_}
+use mathlib.Core.{Bool.Bool, Bool.true, Bool.false, Path._≡_, Path.refl, Path.sym, Path.ap, Path._∙_}
 use mathlib.Core.List.{List, [], _∷_, _++_, append-assoc, append-nil}
 use native.Mathlib.Omega.{arith}
-use lib.ListN.{length, drop, set, getD, length-append, length-set}
-use lib.Seq.{set-at, drop-cons}
-use Rattle.sequences.specs.Search.{passing}
-use Rattle.sequences.specs.Table.{overwritten}
-use Rattle.sequences.proofs.Tests.{cond-cases}
-use Rattle.sequences.proofs.Passing.{passing-add, passing-true, passing-false}
+use lib.{ListN.length, ListN.drop, ListN.set, ListN.getD, ListN.length-append, ListN.length-set, Seq.set-at, Seq.drop-cons}
+use Rattle.sequences.specs.{Search.passing, Table.overwritten}
+use Rattle.sequences.proofs.{Tests.cond-cases, Passing.passing-add, Passing.passing-true, Passing.passing-false}
 
 -- The list `new` stands at the front of the table, and the rest is as it was.
 pub record Written {A : Type 0} (before now new : List A) : Type 0 where
@@ -27,10 +23,10 @@ module _ {A : Type 0} where
   written-none before = record { written = refl; long = refl }
 
   -- One entry more.
-  pub written-more : (before now new : List A) (at : ℕ) (x : A) → at ≡ length new → at < length before → Written before now new → Written before (set now at x) (new ++ (x ∷ []))
+  pub written-more : (before now new : List A) (at : ℕ) (x : A) → at ≡ length new → at < length before → Written before now new →
+      Written before (set now at x) (new ++ (x ∷ []))
   unfolding overwritten
-  written-more before now new at x e room s =
-      record { written = rw (s .written, ← e) stored; long = length-set now at x ∙ s .long }
+  written-more before now new at x e room s = record { written = rw (s .written, ← e) stored; long = length-set now at x ∙ s .long }
     where
       stored : set (new ++ drop at before) at x ≡ (new ++ (x ∷ [])) ++ drop (length (new ++ (x ∷ []))) before
       stored =
@@ -42,8 +38,7 @@ module _ (p : ℕ → Bool) (v : ℕ) where
   pub passing-more : p v ≡ true → passing p 0 (v + 1) ≡ passing p 0 v ++ (v ∷ [])
   unfolding passing
   passing-more t =
-      let e : 0 + v ≡ v = omega arith in
-      passing-add p 0 v 1 ∙ rw e (ap (λ (l : List ℕ). passing p 0 v ++ l) (passing-true p v 0 t))
+      let e : 0 + v ≡ v = omega arith in passing-add p 0 v 1 ∙ rw e (ap (λ (l : List ℕ). passing p 0 v ++ l) (passing-true p v 0 t))
 
   -- and one that does not leaves it as it is.
   pub passing-kept : p v ≡ false → passing p 0 (v + 1) ≡ passing p 0 v

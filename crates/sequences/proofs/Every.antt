@@ -1,9 +1,7 @@
 -- Laws of `every`: that all numbers below a bound pass a test.
 -- Assumes nothing.
 use Prim.Native.Nat.{ℕ, zero, suc, _<_}
-use mathlib.Core.Bool.{Bool, true, false}
-use mathlib.Core.Path.{_≡_, refl, sym, _∙_}
-use mathlib.Core.Logic.{⊎-elim}
+use mathlib.Core.{Bool.Bool, Bool.true, Bool.false, Path._≡_, Path.refl, Path.sym, Path._∙_, Logic.⊎-elim}
 use native.Mathlib.Omega.{arith}
 use Rattle.sequences.specs.Search.{every}
 use Rattle.sequences.proofs.Tests.{truth, true-false-absurd, lt-or-ge, and-left, and-right, and-intro, iff-equal}

@@ -1,9 +1,9 @@
 -- Laws of `flatMap` on lists of numbers: its elements, its length, and what it depends on.
 -- Assumes nothing.
 use Prim.Native.Nat.{ℕ}
-use mathlib.Core.Path.{_≡_, refl, sym, ap, _∙_}
-use mathlib.Core.Logic.{⊎-elim}
-use mathlib.Core.List.{List, [], _∷_, _++_, append-assoc, flatMap, List·Memᴰ, List·Memᴰ·head, List·Memᴰ·tail, List·Memᴰ·not-nil, List·Memᴰ·cases-cons, List·Memᴰ·append-cases, Memᴰ·append-left, Memᴰ·append-right}
+use mathlib.Core.{Path._≡_, Path.refl, Path.sym, Path.ap, Path._∙_, Logic.⊎-elim}
+use mathlib.Core.List.{List, [], _∷_, _++_, append-assoc, flatMap, List·Memᴰ, List·Memᴰ·head, List·Memᴰ·tail, List·Memᴰ·not-nil}
+use mathlib.Core.List.{List·Memᴰ·cases-cons, List·Memᴰ·append-cases, Memᴰ·append-left, Memᴰ·append-right}
 use native.Mathlib.Omega.{arith}
 use lib.ListN.{length, length-append}
 use Rattle.sequences.specs.Lists.{total}
@@ -36,8 +36,7 @@ unfolding flatMap
 flatMap-cong f g [] e = refl
 flatMap-cong f g (x ∷ l) e =
     let here : f x ≡ g x = e x (List·Memᴰ·head refl) in
-    let there : flatMap f l ≡ flatMap g l = flatMap-cong f g l (λ y h. e y (List·Memᴰ·tail h)) in
-    rw (here, there)
+    let there : flatMap f l ≡ flatMap g l = flatMap-cong f g l (λ y h. e y (List·Memᴰ·tail h)) in rw (here, there)
 
 -- Its length is the sum of the lengths.
 pub length-flatMap : (f : ℕ → List ℕ) (l : List ℕ) → length (flatMap f l) ≡ total (λ x. length (f x)) l

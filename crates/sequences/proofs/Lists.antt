@@ -1,13 +1,10 @@
 -- Laws of `indexOf` and `total`.
 -- Assumes nothing.
 use Prim.Native.Nat.{ℕ, zero, suc, _+_, _≤_, _<_}
-use mathlib.Core.Bool.{true, false}
-use mathlib.Core.Path.{_≡_, refl, sym, ap}
-use mathlib.Core.Logic.{⊎-elim}
+use mathlib.Core.{Bool.true, Bool.false, Path._≡_, Path.refl, Path.sym, Path.ap, Logic.⊎-elim}
 use mathlib.Core.List.{List, [], _∷_, _++_, List·Memᴰ, List·Memᴰ·head, List·Memᴰ·tail, List·Memᴰ·not-nil, List·Memᴰ·cases-cons}
 use native.Mathlib.Omega.{arith}
-use lib.ListN.{length, getD}
-use lib.Dec.{eqb}
+use lib.{ListN.length, ListN.getD, Dec.eqb}
 use borrow.Author.Tests.{eqb-true, eqb-false, eq-eqb, ne-eqb}
 use Rattle.sequences.specs.Lists.{indexOf, total}
 use Rattle.sequences.proofs.Tests.{cond-cases, truth, lt-or-ge}

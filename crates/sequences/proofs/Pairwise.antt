@@ -3,21 +3,15 @@
 -- Vocabulary: Pairwise.
 -- Assumes nothing.
 use Prim.Native.Nat.{ℕ, zero, suc, _+_, _≤_, _<_}
-use mathlib.Core.Bool.{Bool}
-use mathlib.Core.Path.{_≡_, refl, sym, ap, _∙_}
-use mathlib.Core.Logic.{⊎-elim}
+use mathlib.Core.{Bool.Bool, Path._≡_, Path.refl, Path.sym, Path.ap, Path._∙_, Logic.⊎-elim}
 use mathlib.Core.List.{List, [], _∷_, _++_, flatMap, List·Memᴰ, List·Memᴰ·head, List·Memᴰ·tail, List·Memᴰ·not-nil, List·Memᴰ·cases-cons, List·Memᴰ·append-cases}
 use native.Mathlib.Omega.{arith}
-use lib.Dec.{ltb, eqb, leb·suc-suc}
-use lib.ListN.{length, getD}
+use lib.{Dec.ltb, Dec.eqb, Dec.leb·suc-suc, ListN.length, ListN.getD}
 use borrow.Author.Tests.{eqb-true, eqb-false, lt-ltb, le-ltb}
-use Rattle.sequences.specs.Search.{count, passing}
-use Rattle.sequences.specs.Lists.{indexOf}
+use Rattle.sequences.specs.{Search.count, Search.passing, Lists.indexOf}
 use Rattle.sequences.proofs.Tests.{cond-cases, truth}
-use Rattle.sequences.proofs.Search.{count-le, count-insert, count-none}
-use Rattle.sequences.proofs.Passing.{passing-sound}
-use Rattle.sequences.proofs.Lists.{index-here, index-there, index-absent, getD-member}
-use Rattle.sequences.proofs.FlatMap.{flatMap-sound}
+use Rattle.sequences.proofs.{Search.count-le, Search.count-insert, Search.count-none, Passing.passing-sound}
+use Rattle.sequences.proofs.{Lists.index-here, Lists.index-there, Lists.index-absent, Lists.getD-member, FlatMap.flatMap-sound}
 
 member-tail : (x z : ℕ) (l : List ℕ) → (x ≡ z → ⊥) → List·Memᴰ x (z ∷ l) → List·Memᴰ x l
 member-tail x z l d h = ⊎-elim (λ e. absurd (d e)) (λ g. g) (List·Memᴰ·cases-cons h)
@@ -32,10 +26,11 @@ module _ (R : ℕ → ℕ → Type 0) where
   pub pairwise-append : (l m : List ℕ) → Pairwise R l → Pairwise R m → ((x y : ℕ) → List·Memᴰ x l → List·Memᴰ y m → R x y) → Pairwise R (l ++ m)
   pairwise-append [] m p q c = q
   pairwise-append (x ∷ l) m p q c =
-      (λ y h. ⊎-elim (λ g. p .0 y g) (λ g. c x y (List·Memᴰ·head refl) g) (List·Memᴰ·append-cases l h), pairwise-append l m (p .1) q (λ a b g h. c a b (List·Memᴰ·tail g) h))
+      (λ y h. ⊎-elim (p .0 y) (c x y (List·Memᴰ·head refl)) (List·Memᴰ·append-cases l h), pairwise-append l m (p .1) q (λ a b g. c a b (List·Memᴰ·tail g)))
 
   -- The lists of pairwise elements, each pairwise, one after another.
-  pub pairwise-flatMap : (S : ℕ → ℕ → Type 0) (f : ℕ → List ℕ) (l : List ℕ) → Pairwise S l → ((c : ℕ) → List·Memᴰ c l → Pairwise R (f c)) → ((c d x y : ℕ) → List·Memᴰ c l → List·Memᴰ d l → S c d → List·Memᴰ x (f c) → List·Memᴰ y (f d) → R x y) → Pairwise R (flatMap f l)
+  pub pairwise-flatMap : (S : ℕ → ℕ → Type 0) (f : ℕ → List ℕ) (l : List ℕ) → Pairwise S l → ((c : ℕ) → List·Memᴰ c l → Pairwise R (f c)) →
+      ((c d x y : ℕ) → List·Memᴰ c l → List·Memᴰ d l → S c d → List·Memᴰ x (f c) → List·Memᴰ y (f d) → R x y) → Pairwise R (flatMap f l)
   unfolding flatMap
   pairwise-flatMap S f [] s p c = tt
   pairwise-flatMap S f (z ∷ l) s p c =
@@ -49,9 +44,9 @@ module _ (R : ℕ → ℕ → Type 0) where
   pairwise-index [] x y p g h i = absurd (List·Memᴰ·not-nil g)
   pairwise-index (z ∷ l) x y p g h i =
       ⊎-elim (λ t. absurd (omega (arith, index-here y z l (eqb-true y z t))))
-      (λ t. let behind : List·Memᴰ y l = member-tail y z l (eqb-false y z t) h in
-      ⊎-elim (λ s. rw (eqb-true x z s) (p .0 y behind))
-      (λ s. pairwise-index l x y (p .1) (member-tail x z l (eqb-false x z s) g) behind (omega (arith, index-there x z l (eqb-false x z s), index-there y z l (eqb-false y z t))))
+      (λ t. let d = eqb-false y z t in let behind : List·Memᴰ y l = member-tail y z l d h in
+      ⊎-elim (λ s. rw (eqb-true x z s) (p .0 y behind)) (λ s. let e = eqb-false x z s in
+      pairwise-index l x y (p .1) (member-tail x z l e g) behind (omega (arith, index-there x z l e, index-there y z l d)))
       (truth (eqb x z))) (truth (eqb y z))
 
   module _ (irreflexive : (x : ℕ) → R x x → ⊥) where
@@ -71,8 +66,7 @@ module _ (R : ℕ → ℕ → Type 0) where
     pub pairwise-count : (l : List ℕ) (n : ℕ) → Pairwise R l → ((x : ℕ) → List·Memᴰ x l → x < n) → count (λ k. ltb (indexOf k l) (length l)) n ≡ length l
     unfolding count
     pairwise-count [] n p b =
-        let e : n ≡ 0 + n = omega arith in
-        ap (count (λ k. ltb (indexOf k []) 0)) e
+        let e : n ≡ 0 + n = omega arith in ap (count (λ k. ltb (indexOf k []) 0)) e
         ∙ count-none (λ k. ltb (indexOf k []) 0) 0 n (λ i h g. le-ltb (indexOf i []) 0 (omega arith))
     pairwise-count (z ∷ l) n p b =
         count-insert (λ k. ltb (indexOf k l) (length l)) (λ k. ltb (indexOf k (z ∷ l)) (length (z ∷ l))) z n (b z (List·Memᴰ·head refl))

@@ -1,9 +1,7 @@
 -- Laws of `passing`: the numbers of a range that pass a test, as a rising list.
 -- Assumes nothing.
 use Prim.Native.Nat.{ℕ, zero, suc, _+_, _≤_, _<_}
-use mathlib.Core.Bool.{Bool, true, false}
-use mathlib.Core.Path.{_≡_, refl, ap}
-use mathlib.Core.Logic.{⊎-elim}
+use mathlib.Core.{Bool.Bool, Bool.true, Bool.false, Path._≡_, Path.refl, Path.ap, Logic.⊎-elim}
 use mathlib.Core.List.{List, [], _∷_, _++_, List·Memᴰ, List·Memᴰ·head, List·Memᴰ·tail, List·Memᴰ·not-nil, List·Memᴰ·cases-cons}
 use native.Mathlib.Omega.{arith}
 use lib.ListN.{length}
@@ -23,13 +21,9 @@ passing-false p a k t = rw t
 -- A range is split by addition.
 pub passing-add : (p : ℕ → Bool) (a i j : ℕ) → passing p a (i + j) ≡ passing p a i ++ passing p (a + i) j
 unfolding passing
-passing-add p a zero j =
-    let e : zero + j ≡ j = omega arith in
-    let f : a + zero ≡ a = omega arith in
-    rw (e, f)
+passing-add p a zero j = let e : zero + j ≡ j = omega arith in let f : a + zero ≡ a = omega arith in rw (e, f)
 passing-add p a (suc i) j =
-    let e : suc i + j ≡ suc (i + j) = omega arith in
-    let f : a + suc i ≡ suc a + i = omega arith in
+    let e : suc i + j ≡ suc (i + j) = omega arith in let f : a + suc i ≡ suc a + i = omega arith in
     rw (e, f) (⊎-elim (λ t. rw t (ap (λ (l : List ℕ). a ∷ l) (passing-add p (suc a) i j))) (λ t. rw t (passing-add p (suc a) i j))
     (truth (p a)))
 
@@ -40,8 +34,7 @@ passing-sound p a zero k h = absurd (List·Memᴰ·not-nil h)
 passing-sound p a (suc m) k h =
     cond-cases (λ l. List·Memᴰ k l → (a ≤ k) × (k < a + suc m) × (p k ≡ true)) (p a)
     (λ t g. ⊎-elim (λ e. (omega arith, omega arith, rw e t)) (λ g′. wider p a m k (passing-sound p (suc a) m k g′)) (List·Memᴰ·cases-cons g))
-    (λ t g. wider p a m k (passing-sound p (suc a) m k g))
-    h
+    (λ t g. wider p a m k (passing-sound p (suc a) m k g)) h
   where
     wider : (p : ℕ → Bool) (a m k : ℕ) → (suc a ≤ k) × (k < suc a + m) × (p k ≡ true) → (a ≤ k) × (k < a + suc m) × (p k ≡ true)
     wider p a m k h = (omega arith, omega arith, h .2)
@@ -60,8 +53,7 @@ pub length-passing : (p : ℕ → Bool) (a k : ℕ) → count p a + length (pass
 unfolding passing
 length-passing p a zero = let e : a + zero ≡ a = omega arith in rw e (omega arith)
 length-passing p a (suc k) =
-    let e : a + suc k ≡ suc a + k = omega arith in
-    rw e (⊎-elim (λ t. rw t (omega (arith, length-passing p (suc a) k, count-true p a t)))
+    let e : a + suc k ≡ suc a + k = omega arith in rw e (⊎-elim (λ t. rw t (omega (arith, length-passing p (suc a) k, count-true p a t)))
     (λ t. rw t (omega (arith, length-passing p (suc a) k, count-false p a t))) (truth (p a)))
 
 -- The list depends on the test in the range only.
@@ -70,8 +62,7 @@ unfolding passing
 passing-cong p q a zero e = refl
 passing-cong p q a (suc m) e =
     let above : passing p (suc a) m ≡ passing q (suc a) m = passing-cong p q (suc a) m (λ k l r. e k (omega arith) (omega arith)) in
-    let here : p a ≡ q a = e a (omega arith) (omega arith) in
-    rw (above, here)
+    let here : p a ≡ q a = e a (omega arith) (omega arith) in rw (above, here)
 
 -- Where nothing in the range passes, the list is empty.
 pub passing-none : (p : ℕ → Bool) (a m : ℕ) → ((k : ℕ) → a ≤ k → k < a + m → p k ≡ false) → passing p a m ≡ []

@@ -1,11 +1,9 @@
 -- Laws of the bounded searches `least`, `greatest` and `count`.
 -- Assumes nothing.
 use Prim.Native.Nat.{ℕ, zero, suc, _+_, _-_, _≤_, _<_}
-use mathlib.Core.Bool.{Bool, true, false}
-use mathlib.Core.Path.{_≡_, refl, sym, ap, _∙_}
+use mathlib.Core.{Bool.Bool, Bool.true, Bool.false, Path._≡_, Path.refl, Path.sym, Path.ap, Path._∙_}
 use mathlib.Core.Logic.{_⊎_, inl, inr, ⊎-elim}
-use native.Mathlib.Omega.{arith}
-use native.Mathlib.Nat.{le-antisymm}
+use native.Mathlib.{Omega.arith, Nat.le-antisymm}
 use Rattle.sequences.specs.Search.{least, greatest, count}
 use Rattle.sequences.proofs.Tests.{cond-cases, truth, true-false-absurd, lt-or-ge}
 
@@ -77,8 +75,7 @@ unfolding greatest
 greatest-cong p q zero d e = refl
 greatest-cong p q (suc n) d e =
     let below : greatest p n d ≡ greatest q n d = greatest-cong p q n d (λ k h. e k (omega arith)) in
-    let here : p n ≡ q n = e n (omega arith) in
-    rw (below, here)
+    let here : p n ≡ q n = e n (omega arith) in rw (below, here)
 
 -- count
 
@@ -103,23 +100,20 @@ count-step p n = cond-cases (λ k. (count p n ≤ k) × (k ≤ suc (count p n)))
 pub count-monotone : (p : ℕ → Bool) (m k : ℕ) → count p m ≤ count p (m + k)
 count-monotone p m zero = let e : m + zero ≡ m = omega arith in rw e (omega arith)
 count-monotone p m (suc k) =
-    let e : m + suc k ≡ suc (m + k) = omega arith in
-    rw e (omega (arith, count-monotone p m k, count-step p (m + k) .0))
+    let e : m + suc k ≡ suc (m + k) = omega arith in rw e (omega (arith, count-monotone p m k, count-step p (m + k) .0))
 
 pub count-cong : (p q : ℕ → Bool) (n : ℕ) → ((k : ℕ) → k < n → p k ≡ q k) → count p n ≡ count q n
 unfolding count
 count-cong p q zero e = refl
 count-cong p q (suc n) e =
     let below : count p n ≡ count q n = count-cong p q n (λ k h. e k (omega arith)) in
-    let here : p n ≡ q n = e n (omega arith) in
-    rw (below, here)
+    let here : p n ≡ q n = e n (omega arith) in rw (below, here)
 
 -- One number more that passes adds one.
 pub count-insert : (p q : ℕ → Bool) (z n : ℕ) → z < n → p z ≡ false → q z ≡ true → ((k : ℕ) → (k ≡ z → ⊥) → p k ≡ q k) → count q n ≡ suc (count p n)
 count-insert p q z zero h f t e = absurd (omega arith)
 count-insert p q z (suc n) h f t e =
-    ⊎-elim (λ g. let rest : count q n ≡ suc (count p n) = count-insert p q z n g f t e in
-    let same : p n ≡ q n = e n (λ d. omega arith) in
+    ⊎-elim (λ g. let rest : count q n ≡ suc (count p n) = count-insert p q z n g f t e in let same : p n ≡ q n = e n (λ d. omega arith) in
     ⊎-elim (λ s. omega (arith, count-true p n s, count-true q n (sym same ∙ s)))
     (λ s. omega (arith, count-false p n s, count-false q n (sym same ∙ s))) (truth (p n))) (λ g. let d : z ≡ n = omega arith in
     omega (arith, count-false p n (rw d at f), count-true q n (rw d at t), count-cong p q n (λ k l. e k (λ s. omega arith)))) (lt-or-ge z n)
@@ -139,15 +133,14 @@ count-every p a (suc k) h =
     rw e (omega (arith, count-true p (a + k) (h (a + k) (omega arith) (omega arith)), count-every p a k (λ i l r. h i l (omega arith))))
 
 -- A test that passes from a up to, not including, b counts b - a numbers, wherever the count stops past b.
-pub count-range : (p : ℕ → Bool) (a b n : ℕ) → ((k : ℕ) → k < a → p k ≡ false) → ((k : ℕ) → a ≤ k → k < b → p k ≡ true) → ((k : ℕ) → b ≤ k → p k ≡ false) → b ≤ n → count p n ≡ b - a
+pub count-range : (p : ℕ → Bool) (a b n : ℕ) → ((k : ℕ) → k < a → p k ≡ false) → ((k : ℕ) → a ≤ k → k < b → p k ≡ true) →
+    ((k : ℕ) → b ≤ k → p k ≡ false) → b ≤ n → count p n ≡ b - a
 unfolding count
 count-range p a b n before within after le =
     let start : count p (0 + a) ≡ 0 = count-none p 0 a (λ i l r. before i (omega arith)) in
-    ⊎-elim (λ h.
-    let e : n ≡ 0 + a + (b - a) + (n - b) = omega arith in
+    ⊎-elim (λ h. let e : n ≡ 0 + a + (b - a) + (n - b) = omega arith in
     let middle : count p (0 + a + (b - a)) ≡ count p (0 + a) + (b - a) = count-every p (0 + a) (b - a) (λ i l r. within i (omega arith) (omega arith)) in
     let rest : count p (0 + a + (b - a) + (n - b)) ≡ count p (0 + a + (b - a)) = count-none p (0 + a + (b - a)) (n - b) (λ i l r. after i (omega arith)) in
-    omega (arith, ap (count p) e)) (λ h.
-    let e : n ≡ 0 + n = omega arith in
+    omega (arith, ap (count p) e)) (λ h. let e : n ≡ 0 + n = omega arith in
     let none : count p (0 + n) ≡ 0 = count-none p 0 n (λ i l r. ⊎-elim (λ g. before i g) (λ g. after i (omega arith)) (lt-or-ge i a)) in
     omega (arith, ap (count p) e)) (lt-or-ge a b)

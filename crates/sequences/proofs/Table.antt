@@ -2,10 +2,8 @@
 -- Assumes nothing.
 use Prim.Native.Nat.{ℕ, zero, suc, _+_, _-_, _≤_, _<_}
 use mathlib.Core.Path.{_≡_, refl, sym, ap, _∙_}
-use mathlib.Core.Logic.{⊎-elim}
-use mathlib.Core.List.{List, [], _∷_, _++_, append-assoc}
-use native.Mathlib.Omega.{arith}
-use native.Mathlib.Numerals.{add-one}
+use mathlib.Core.{Logic.⊎-elim, List.List, List.[], List._∷_, List._++_, List.append-assoc}
+use native.Mathlib.{Omega.arith, Numerals.add-one}
 use lib.ListN.{length, getD, take, drop, set, length-append, length-drop, length-set, List·getD-append}
 use lib.Seq.{set-at, drop-cons, take-at, getD-at, getD-drop, getD-append-add}
 use Rattle.sequences.specs.Table.{table, overwritten, Holds}
@@ -31,8 +29,7 @@ module _ {A : Type 0} where
   table-cong f g zero e = refl
   table-cong f g (suc n) e =
       let below : table f n ≡ table g n = table-cong f g n (λ k h. e k (omega arith)) in
-      let here : f n ≡ g n = e n (omega arith) in
-      rw (below, here)
+      let here : f n ≡ g n = e n (omega arith) in rw (below, here)
 
   -- One store more: the turn of every pass that fills a table.
   pub table-turn : (f : ℕ → A) (l : List A) (v : ℕ) → v < length l → set (table f v ++ drop v l) v (f v) ≡ table f (suc v) ++ drop (suc v) l
@@ -57,8 +54,7 @@ module _ {A : Type 0} where
   -- What lies past it stays.
   pub overwritten-past : (f : ℕ → A) (n : ℕ) (l : List A) (k : ℕ) (d : A) → n ≤ k → getD (overwritten l (table f n)) k d ≡ getD l k d
   overwritten-past f n l k d h =
-      let there : k ≡ length (table f n) + (k - n) = omega (arith, length-table f n) in
-      let here : n + (k - n) ≡ k = omega arith in
+      let there : k ≡ length (table f n) + (k - n) = omega (arith, length-table f n) in let here : n + (k - n) ≡ k = omega arith in
       rw (overwritten-table f n l)
       (ap (λ i. getD (table f n ++ drop n l) i d) there ∙ getD-append-add (table f n) (drop n l) (k - n) d ∙ getD-drop n l (k - n) d
       ∙ ap (λ i. getD l i d) here)
@@ -87,9 +83,7 @@ module _ {A : Type 0} (f : ℕ → A) (n : ℕ) (before now : List A) where
 
   -- The pass is done.
   pub filling-end : (v : ℕ) → n ≤ v → Filling f n before now v → now ≡ overwritten before (table f n)
-  filling-end v done s =
-      let e : v ≡ n = omega (arith, s .within) in
-      (rw e at (s .filled)) ∙ sym (overwritten-table f n before)
+  filling-end v done s = let e : v ≡ n = omega (arith, s .within) in (rw e at (s .filled)) ∙ sym (overwritten-table f n before)
 
 pub filling-start : {A : Type 0} (f : ℕ → A) (n : ℕ) (before : List A) → Filling f n before before 0
 unfolding table

@@ -32,13 +32,4 @@ returns-4 : tie.Need-returns-4
 returns-4 c = ask-none _ _ (c .before .before .before .before .if1 .left) (omega arith) (c .if3 .left)
 
 pub ask-window-spec : {M : Type 1} → statement M
-ask-window-spec =
-    tie.close (tie.spec
-    by-requires
-    returns
-    window-end-requires
-    by-requires-2
-    returns-2
-    by-requires-3
-    returns-3
-    returns-4)
+ask-window-spec = tie.close (tie.spec by-requires returns window-end-requires by-requires-2 returns-2 by-requires-3 returns-3 returns-4)

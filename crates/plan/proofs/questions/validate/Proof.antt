@@ -60,18 +60,5 @@ returns-4 c = let d = c .before .before .before .before in
 
 pub validate-spec : {M : Type 1} → statement M
 validate-spec =
-    tie.close (tie.spec
-    by-requires
-    returns
-    read-u16-requires
-    cast-if2
-    by-requires-2
-    returns-2
-    cast-if3
-    mul-if3
-    add-if3
-    by-requires-3
-    returns-3
-    read-u16-requires-2
-    validate-windows-requires
-    returns-4)
+    tie.close (tie.spec by-requires returns read-u16-requires cast-if2 by-requires-2 returns-2 cast-if3 mul-if3 add-if3 by-requires-3
+    returns-3 read-u16-requires-2 validate-windows-requires returns-4)

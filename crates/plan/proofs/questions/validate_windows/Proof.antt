@@ -76,24 +76,6 @@ returns-2 c = passed-end _ _ _ _ _ (c .loop-test .left) (c .before .loop .inv)
 
 pub validate-windows-spec : {M : Type 1} → statement M
 validate-windows-spec =
-    tie.close (tie.spec
-    Inv-loop
-    μ-loop
-    loop-holds
-    cast-at
-    mul-at
-    add-at
-    add-read-window
-    sub-read-window
-    part-read-window-start
-    part-read-window-end
-    read-window-requires
-    ask-window-requires
-    enum-known-asked
-    about-requires
-    returns
-    enum-told
-    add-position
-    loop-less
-    loop-again
-    returns-2)
+    tie.close (tie.spec Inv-loop μ-loop loop-holds cast-at mul-at add-at add-read-window sub-read-window part-read-window-start
+    part-read-window-end read-window-requires ask-window-requires enum-known-asked about-requires returns enum-told add-position loop-less
+    loop-again returns-2)

@@ -36,12 +36,4 @@ returns-3 c = let second = c .before .before in
 
 pub write-window-spec : {M : Type 1} → statement M
 write-window-spec =
-    tie.close (tie.spec
-    returns
-    sub-if2
-    returns-2
-    write-u32-requires
-    add-write-u32
-    write-u32-requires-2
-    same-length
-    returns-3)
+    tie.close (tie.spec returns sub-if2 returns-2 write-u32-requires add-write-u32 write-u32-requires-2 same-length returns-3)
