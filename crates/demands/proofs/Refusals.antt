@@ -69,7 +69,9 @@ same-found true r e = let z : _≡_ {A = ℕ} 0 1 = cc in omega arith
 same-found false r e = let z : _≡_ {A = ℕ} 0 1 = cc in omega arith
 
 pub demand-1 : Demand1
-unfolding validateAnswerOf buildAnswerOf tagsAnswerOf tableAnswerOf reachAnswerOf chainAnswerOf neighboursAnswerOf sameAnswerOf readAnswerOf writeAnswerOf lookupAnswerOf pairAnswerOf pairAtAnswerOf afterBuild afterTags afterTable afterChain afterNeighbours afterWrite
+unfolding validateAnswerOf buildAnswerOf tagsAnswerOf tableAnswerOf reachAnswerOf chainAnswerOf neighboursAnswerOf sameAnswerOf
+    readAnswerOf writeAnswerOf lookupAnswerOf pairAnswerOf pairAtAnswerOf afterBuild afterTags afterTable afterChain afterNeighbours
+    afterWrite
 demand-1 =
     record {
       validating = λ file. refuses Validation.Refused _ (λ r s e. cc) (λ r e. let z : _≡_ {A = ℕ} 0 1 = cc in omega arith) _;

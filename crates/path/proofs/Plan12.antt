@@ -12,7 +12,8 @@ use Rattle.path.specs.Neighbours.{neighboursOf, neighboursQuestions, nei
 
 -- What a computation on the file opens.
 unfoldable answers : Unit {0}
-unfolding meaning climb walk chainOf passing from positionQuestion positionQuestions roomQuestion chainBetween chainQuestions chainFound chainAnswerOf neighboursOf neighboursQuestions neighboursAnswerOf
+unfolding meaning climb walk chainOf passing from positionQuestion positionQuestions roomQuestion chainBetween chainQuestions chainFound
+    chainAnswerOf neighboursOf neighboursQuestions neighboursAnswerOf
 answers = tt
 
 -- "0 to 5 is 3, chain 5 4 2 0 … 3 to 5 is 3, chain 5 4 2 3 … 1 to 3 is 2, chain 3 0 1 … 5 to 6: no chain."

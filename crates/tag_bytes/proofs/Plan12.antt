@@ -16,7 +16,8 @@ use Rattle.tag_bytes.specs.TagFile.{tagFile, tagCount, tagPart, tagFileQ
 
 -- What a computation on tags opens.
 unfoldable pub meaning : Unit {0}
-unfolding definitions le16 bytes16 question positionQuestion firstNo field tagOf numbers tagWith tagBytes withinLimit readQuestions readAnswerOf tagFile tagCount tagPart tagFileQuestion flatMap lookupQuestions lookupAnswerOf partAt lookupPart
+unfolding definitions le16 bytes16 question positionQuestion firstNo field tagOf numbers tagWith tagBytes withinLimit readQuestions
+    readAnswerOf tagFile tagCount tagPart tagFileQuestion flatMap lookupQuestions lookupAnswerOf partAt lookupPart
 meaning = tt
 
 -- The tag file of the plan.

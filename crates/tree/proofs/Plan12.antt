@@ -13,7 +13,8 @@ use Rattle.tree.specs.Build.{tablesFit, buildQuestions, buildAnswerOf, t
 
 -- What a computation on the file opens.
 unfoldable answers : Unit {0}
-unfolding meaning roomQuestion overwritten tagBytes tagFile componentOf depthOf rankOf lastRankOf componentCount numbersAt tablesFit buildQuestions buildAnswerOf tagsQuestions tagsAnswerOf afterBuild afterTags
+unfolding meaning roomQuestion overwritten tagBytes tagFile componentOf depthOf rankOf lastRankOf componentCount numbersAt tablesFit
+    buildQuestions buildAnswerOf tagsQuestions tagsAnswerOf afterBuild afterTags
 answers = tt
 
 pub plan-12-tables : table (componentOf file) 7 ∷ table (depthOf file) 7 ∷ table (rankOf file) 7 ∷ table (lastRankOf file) 7 ∷ []
