@@ -5,6 +5,7 @@
 use Prim.Native.Nat.{ℕ, _+_, _≤_, _<_}
 use mathlib.Core.{Bool.Bool, Bool.true, Bool.false, Path._≡_, Path.refl, Path.sym, Path.ap, Path._∙_, List.List, List.[], List._∷_}
 use native.Mathlib.Omega.{arith}
+use mir.Val.{boolByte}
 use lib.ListN.{length, set, length-append}
 use borrow.Author.Tests.{lt-ltb, le-ltb, le-leb, lt-leb}
 use Rattle.sequences.specs.Search.{passing}
@@ -20,6 +21,11 @@ use Rattle.plan.specs.Validation.{validateAnswerOf}
 use Rattle.plan.proofs.Calls.{plan-first, accepted-numbers}
 use Rattle.path.specs.declared.answers.NeighboursAnswer.the-variants.{Neighbours, Refused}
 use Rattle.path.specs.Neighbours.{neighboursOf, neighboursQuestions, neighboursAnswerOf}
+
+-- An answer counts as at most 1.
+pub one-most : (t : Bool) → boolByte t ≤ 1
+one-most true = omega arith
+one-most false = omega arith
 
 -- Before the position v of n: so many passed the test.
 pub record Counted (p : ℕ → Bool) (n found v : ℕ) : Type 0 where
@@ -52,6 +58,11 @@ module _ (p : ℕ → Bool) (n : ℕ) where
     -- One that does not.
     pub counted-kept : p v ≡ false → Counted p n found v → Counted p n found (v + 1)
     counted-kept t s = record { within = omega arith; counted = rw (passing-kept p v t) (s .counted) }
+
+    -- Either, as a sum of the test's answer.
+    pub counted-turn : (t : Bool) → p v ≡ t → Counted p n found v → Counted p n (found + boolByte t) (v + 1)
+    counted-turn true e s = counted-more e s
+    counted-turn false e s = let same : found + boolByte false ≡ found = omega arith in rw same (counted-kept e s)
 
     -- There is room for one that passes, where there is for all.
     pub listed-room : (before now : List ℕ) → p v ≡ true → length (passing p 0 n) ≤ length before → Listed p n before now found v → found < length now

@@ -2,10 +2,10 @@
 -- windows.
 -- Assumes nothing.
 use Prim.Native.Nat.{_-_}
-use mathlib.Core.{Path.sym, Path._∙_, Logic.⊎-elim}
+use mathlib.Core.Path.{sym}
 use native.Mathlib.Omega.{arith}
 use Rattle.plan.specs.Overlap.{overlaps}
-use Rattle.path.proofs.Neighbouring.{Counted, counted-start, counted-more, counted-kept, counted-few, counted-end, listing-neighbours}
+use Rattle.path.proofs.Neighbouring.{Counted, counted-start, counted-turn, counted-few, one-most, counted-end, listing-neighbours}
 use borrow.Author.Needs.{needs}
 use Rattle.path.proofs.neighbourhood.count_neighbours.Statement.{statement}
 use Rattle.path.proofs.neighbourhood.count_neighbours.Tie as tie
@@ -27,8 +27,11 @@ meets-requires c κs = let d = c .before .before .before .before in
     let p = d .pre .0 in
     (p .accepted, (c .before .before .window-at .ensures, (omega (arith, p .counted), omega (arith, p .counted))))
 
+cast-found : tie.Need-cast-found Inv-loop μ-loop
+cast-found c = search needs
+
 add-found : tie.Need-add-found Inv-loop μ-loop
-add-found c = let s = c .before .before .before .loop in omega (arith, counted-few _ _ (s .found) (s .position) (s .inv))
+add-found c = let s = c .before .before .loop in omega (arith, counted-few _ _ (s .found) (s .position) (s .inv), one-most (c .meets .result))
 
 add-position : tie.Need-add-position Inv-loop μ-loop
 add-position c = search needs
@@ -37,10 +40,7 @@ loop-less : tie.Need-loop-less Inv-loop μ-loop
 loop-less c = search needs
 
 loop-again : tie.Need-loop-again Inv-loop μ-loop
-loop-again c = let h = c .before .before .loop-test .taken in
-    let s = c .before .before .before .loop .inv in
-    let read = sym (c .before .meets .ensures) in
-    ⊎-elim (λ w. rw (w .1) (counted-more _ _ _ _ h (read ∙ w .0 .taken) s)) (λ w. rw (w .1) (counted-kept _ _ _ _ h (read ∙ w .0 .left) s)) (c .if1 .came)
+loop-again c = counted-turn _ _ _ _ (c .before .loop-test .taken) _ (sym (c .meets .ensures)) (c .before .before .loop .inv)
 
 returns : tie.Need-returns Inv-loop μ-loop
 returns c = let d = c .before .before .before .before in
@@ -54,6 +54,7 @@ count-neighbours-spec =
     window-at-requires
     loop-holds
     meets-requires
+    cast-found
     add-found
     add-position
     loop-less
