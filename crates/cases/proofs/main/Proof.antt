@@ -37,14 +37,5 @@ returns c = search needs
 
 pub main-spec : {M : Type 1} → statement M
 main-spec =
-    tie.close (tie.spec
-    Inv-loop
-    μ-loop
-    loop-holds
-    mul-try-row
-    array-copy-out-try-row
-    try-row-requires
-    add-row
-    loop-less
-    loop-again
+    tie.close (tie.spec Inv-loop μ-loop loop-holds mul-try-row array-copy-out-try-row try-row-requires add-row loop-less loop-again
     returns)

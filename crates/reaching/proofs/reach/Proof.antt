@@ -113,22 +113,6 @@ returns-3 c = let t = tabled _ _ _ _ _ _ (c .before .before .before .before .bef
 
 pub reach-spec : {M : Type 1} → statement M
 reach-spec =
-    tie.close (tie.spec
-    slice-aggregate-parent-table
-    parent-table-requires
-    enum-known-windows
-    cast-windows
-    enum-known-refusal
-    returns
-    by-requires
-    returns-2
-    slice-aggregate-fill-levels
-    slice-aggregate-fill-levels-2
-    slice-aggregate-fill-levels-3
-    fill-levels-requires
-    slice-aggregate-run-end
-    run-end-requires
-    mul-found
-    array-read-found
-    add-found
-    returns-3)
+    tie.close (tie.spec slice-aggregate-parent-table parent-table-requires enum-known-windows cast-windows enum-known-refusal returns
+    by-requires returns-2 slice-aggregate-fill-levels slice-aggregate-fill-levels-2 slice-aggregate-fill-levels-3 fill-levels-requires
+    slice-aggregate-run-end run-end-requires mul-found array-read-found add-found returns-3)

@@ -50,18 +50,5 @@ returns-2 c = running-ends _ _ _ _ (c .before .loop .inv) (c .loop-test .left)
 
 pub run-end-spec : {M : Type 1} → statement M
 run-end-spec =
-    tie.close (tie.spec
-    Inv-loop
-    μ-loop
-    loop-holds
-    add-loop
-    add-if1
-    mul-if1
-    shared-slice-read-if1
-    mul-if1-2
-    shared-slice-read-if1-2
-    returns
-    add-last
-    loop-less
-    loop-again
-    returns-2)
+    tie.close (tie.spec Inv-loop μ-loop loop-holds add-loop add-if1 mul-if1 shared-slice-read-if1 mul-if1-2 shared-slice-read-if1-2 returns
+    add-last loop-less loop-again returns-2)

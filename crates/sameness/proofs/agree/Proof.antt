@@ -53,16 +53,5 @@ returns-2 c = sym (every-intro _ _ (λ k h. eq-eqb _ _ (c .before .loop .inv .1 
 
 pub agree-spec : {M : Type 1} → statement M
 agree-spec =
-    tie.close (tie.spec
-    Inv-loop
-    μ-loop
-    loop-holds
-    mul-if1
-    shared-slice-read-if1
-    mul-if1-2
-    shared-slice-read-if1-2
-    returns
-    add-position
-    loop-less
-    loop-again
-    returns-2)
+    tie.close (tie.spec Inv-loop μ-loop loop-holds mul-if1 shared-slice-read-if1 mul-if1-2 shared-slice-read-if1-2 returns add-position
+    loop-less loop-again returns-2)

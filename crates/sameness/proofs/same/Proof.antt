@@ -90,22 +90,6 @@ returns-5 c = let d = c .before .before .before .before in
 
 pub same-spec : {M : Type 1} → statement M
 same-spec =
-    tie.close (tie.spec
-    slice-aggregate-last-table
-    last-table-requires
-    enum-known-windows
-    enum-known-refusal
-    returns
-    slice-aggregate-last-table-2
-    last-table-requires-2
-    enum-known-windows-2
-    enum-known-refusal-2
-    from-requires
-    returns-2
-    returns-3
-    slice-aggregate-agree
-    slice-aggregate-agree-2
-    cast-agree
-    agree-requires
-    returns-4
-    returns-5)
+    tie.close (tie.spec slice-aggregate-last-table last-table-requires enum-known-windows enum-known-refusal returns
+    slice-aggregate-last-table-2 last-table-requires-2 enum-known-windows-2 enum-known-refusal-2 from-requires returns-2 returns-3
+    slice-aggregate-agree slice-aggregate-agree-2 cast-agree agree-requires returns-4 returns-5)

@@ -38,13 +38,4 @@ returns c = search needs
 
 pub put-staircase-spec : {M : Type 1} → statement M
 put-staircase-spec =
-    tie.close (tie.spec
-    Inv-loop
-    μ-loop
-    loop-holds
-    put-window-requires
-    add-position
-    loop-less
-    loop-again
-    same-length
-    returns)
+    tie.close (tie.spec Inv-loop μ-loop loop-holds put-window-requires add-position loop-less loop-again same-length returns)

@@ -55,15 +55,5 @@ returns-2 c = let d = c .before .before .before in
 
 pub pair-from-plan-spec : {M : Type 1} → statement M
 pair-from-plan-spec =
-    tie.close (tie.spec
-    slice-aggregate-tag-file
-    tag-file-requires
-    enum-known-windows
-    cast-windows
-    enum-known-refusal
-    returns
-    mul-end
-    array-share-prefix-tags
-    slice-aggregate-pair-at
-    pair-at-requires
-    returns-2)
+    tie.close (tie.spec slice-aggregate-tag-file tag-file-requires enum-known-windows cast-windows enum-known-refusal returns mul-end
+    array-share-prefix-tags slice-aggregate-pair-at pair-at-requires returns-2)

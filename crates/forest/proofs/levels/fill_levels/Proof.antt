@@ -119,32 +119,7 @@ returns c = let s = c .before .loop .inv in
 
 pub fill-levels-spec : {M : Type 1} → statement M
 fill-levels-spec =
-    tie.close (tie.spec
-    Inv-loop
-    μ-loop
-    smaller-requires
-    smaller-requires-2
-    smaller-requires-3
-    smaller-requires-4
-    loop-holds
-    parent-at-requires
-    mul-components
-    slice-write-components
-    mul-depths
-    slice-write-depths
-    add-roots
-    mul-components-2
-    slice-read-components
-    mul-components-3
-    slice-write-components-2
-    mul-depths-2
-    slice-read-depths
-    add-depths
-    mul-depths-3
-    slice-write-depths-2
-    add-position
-    loop-less
-    loop-again
-    same-length
-    same-length-2
-    returns)
+    tie.close (tie.spec Inv-loop μ-loop smaller-requires smaller-requires-2 smaller-requires-3 smaller-requires-4 loop-holds
+    parent-at-requires mul-components slice-write-components mul-depths slice-write-depths add-roots mul-components-2 slice-read-components
+    mul-components-3 slice-write-components-2 mul-depths-2 slice-read-depths add-depths mul-depths-3 slice-write-depths-2 add-position
+    loop-less loop-again same-length same-length-2 returns)

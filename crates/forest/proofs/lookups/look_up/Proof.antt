@@ -64,21 +64,6 @@ returns c = let e = c .before .before .smaller3 .ensures in
 
 pub look-up-spec : {M : Type 1} → statement M
 look-up-spec =
-    tie.close (tie.spec
-    Inv-loop
-    μ-loop
-    smaller-requires
-    smaller-requires-2
-    smaller-requires-3
-    loop-holds
-    mul-entry-at
-    shared-slice-read-entry-at
-    cast-entry-at
-    entry-at-requires
-    mul-out
-    slice-write-out
-    add-position
-    loop-less
-    loop-again
-    same-length
+    tie.close (tie.spec Inv-loop μ-loop smaller-requires smaller-requires-2 smaller-requires-3 loop-holds mul-entry-at
+    shared-slice-read-entry-at cast-entry-at entry-at-requires mul-out slice-write-out add-position loop-less loop-again same-length
     returns)

@@ -23,5 +23,4 @@ unfolding parentIn
 returns c = (c .smaller .ensures, omega arith)
 
 pub parent-at-spec : {M : Type 1} → statement M
-parent-at-spec =
-    tie.close (tie.spec mul-smaller shared-slice-read-smaller cast-smaller smaller-requires returns)
+parent-at-spec = tie.close (tie.spec mul-smaller shared-slice-read-smaller cast-smaller smaller-requires returns)

@@ -104,27 +104,6 @@ returns c = filling-end _ _ _ _ _ (c .loop-test .left) (c .before .loop .inv .fi
 
 pub assign-ranks-spec : {M : Type 1} → statement M
 assign-ranks-spec =
-    tie.close (tie.spec
-    Inv-loop
-    μ-loop
-    loop-holds
-    parent-at-requires
-    mul-size
-    shared-slice-read-size
-    mul-start
-    slice-read-start
-    add-next
-    mul-next
-    slice-write-next
-    mul-next-2
-    slice-write-next-2
-    add-ranks
-    sub-ranks
-    mul-ranks
-    slice-write-ranks
-    add-position
-    loop-less
-    loop-again
-    same-length
-    same-length-2
-    returns)
+    tie.close (tie.spec Inv-loop μ-loop loop-holds parent-at-requires mul-size shared-slice-read-size mul-start slice-read-start add-next
+    mul-next slice-write-next mul-next-2 slice-write-next-2 add-ranks sub-ranks mul-ranks slice-write-ranks add-position loop-less
+    loop-again same-length same-length-2 returns)

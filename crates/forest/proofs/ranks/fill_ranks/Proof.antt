@@ -43,14 +43,5 @@ returns c = rw (
 
 pub fill-ranks-spec : {M : Type 1} → statement M
 fill-ranks-spec =
-    tie.close (tie.spec
-    smaller-requires
-    smaller-requires-2
-    smaller-requires-3
-    slice-aggregate-add-sizes
-    add-sizes-requires
-    slice-aggregate-assign-ranks
-    slice-aggregate-assign-ranks-2
-    assign-ranks-requires
-    same-length
-    returns)
+    tie.close (tie.spec smaller-requires smaller-requires-2 smaller-requires-3 slice-aggregate-add-sizes add-sizes-requires
+    slice-aggregate-assign-ranks slice-aggregate-assign-ranks-2 assign-ranks-requires same-length returns)

@@ -77,22 +77,5 @@ returns c = sized-end (table-forest _) _ _ _ (c .loop-test .left) (c .before .lo
 
 pub add-sizes-spec : {M : Type 1} → statement M
 add-sizes-spec =
-    tie.close (tie.spec
-    Inv-loop
-    μ-loop
-    loop-holds
-    sub-position
-    parent-at-requires
-    mul-sizes
-    slice-read-sizes
-    mul-sizes-2
-    slice-read-sizes-2
-    add-sizes
-    mul-sizes-3
-    slice-write-sizes
-    loop-less
-    loop-again
-    loop-less-2
-    loop-again-2
-    same-length
-    returns)
+    tie.close (tie.spec Inv-loop μ-loop loop-holds sub-position parent-at-requires mul-sizes slice-read-sizes mul-sizes-2
+    slice-read-sizes-2 add-sizes mul-sizes-3 slice-write-sizes loop-less loop-again loop-less-2 loop-again-2 same-length returns)

@@ -66,23 +66,6 @@ returns c = search needs
 
 pub print-rows-spec : {M : Type 1} → statement M
 print-rows-spec =
-    tie.close (tie.spec
-    Inv-loop
-    μ-loop
-    loop-holds
-    mul-print-row
-    element-copy-out-print-row
-    mul-t14
-    element-copy-out-t17
-    mul-t18
-    element-copy-out-t21
-    mul-t22
-    element-copy-out-t25
-    mul-t26
-    element-copy-out-t29
-    cast-print-row
-    print-row-requires
-    add-at
-    loop-less
-    loop-again
-    returns)
+    tie.close (tie.spec Inv-loop μ-loop loop-holds mul-print-row element-copy-out-print-row mul-t14 element-copy-out-t17 mul-t18
+    element-copy-out-t21 mul-t22 element-copy-out-t25 mul-t26 element-copy-out-t29 cast-print-row print-row-requires add-at loop-less
+    loop-again returns)

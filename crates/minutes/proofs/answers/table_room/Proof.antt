@@ -32,12 +32,4 @@ returns-3 c = table-filled _ _ _ (c .before .before .before .before .validate .e
 
 pub table-room-spec : {M : Type 1} → statement M
 table-room-spec =
-    tie.close (tie.spec
-    validate-requires
-    enum-known-windows
-    enum-known-refusal
-    returns
-    cast-if1
-    by-requires
-    returns-2
-    returns-3)
+    tie.close (tie.spec validate-requires enum-known-windows enum-known-refusal returns cast-if1 by-requires returns-2 returns-3)

@@ -29,10 +29,5 @@ returns c = search needs
 
 pub fill-lasts-spec : {M : Type 1} → statement M
 fill-lasts-spec =
-    tie.close (tie.spec
-    slice-aggregate-read-offsets
-    read-offsets-requires
-    slice-aggregate-find-lasts
-    find-lasts-requires
-    same-length
+    tie.close (tie.spec slice-aggregate-read-offsets read-offsets-requires slice-aggregate-find-lasts find-lasts-requires same-length
     returns)

@@ -56,17 +56,5 @@ returns c = bracket-found _ _ _ _ _ (c .loop-test .left) (c .before .loop .inv)
 
 pub last-before-spec : {M : Type 1} → statement M
 last-before-spec =
-    tie.close (tie.spec
-    Inv-loop
-    μ-loop
-    loop-holds
-    add-low
-    mul-low
-    shared-slice-read-low
-    cast-low
-    mul-low-2
-    add-low-2
-    sub-width
-    loop-less
-    loop-again
-    returns)
+    tie.close (tie.spec Inv-loop μ-loop loop-holds add-low mul-low shared-slice-read-low cast-low mul-low-2 add-low-2 sub-width loop-less
+    loop-again returns)

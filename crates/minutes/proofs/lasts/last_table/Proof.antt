@@ -39,12 +39,5 @@ returns-2 c = (
 
 pub last-table-spec : {M : Type 1} → statement M
 last-table-spec =
-    tie.close (tie.spec
-    table-room-requires
-    enum-known-refusal
-    enum-known-windows
-    cast-fill-lasts
-    fill-lasts-requires
-    returns
-    same-length
+    tie.close (tie.spec table-room-requires enum-known-refusal enum-known-windows cast-fill-lasts fill-lasts-requires returns same-length
     returns-2)

@@ -37,14 +37,4 @@ returns-2 : tie.Need-returns-2 Inv-loop μ-loop
 returns-2 c = none-past-found _ _ _ _ _ (λ h. absurd (omega arith)) (c .before .loop .inv)
 
 pub first-past-spec : {M : Type 1} → statement M
-first-past-spec =
-    tie.close (tie.spec
-    Inv-loop
-    μ-loop
-    loop-holds
-    bound-at-requires
-    returns
-    add-at
-    loop-less
-    loop-again
-    returns-2)
+first-past-spec = tie.close (tie.spec Inv-loop μ-loop loop-holds bound-at-requires returns add-at loop-less loop-again returns-2)

@@ -39,12 +39,5 @@ returns-2 c = (
 
 pub parent-table-spec : {M : Type 1} → statement M
 parent-table-spec =
-    tie.close (tie.spec
-    table-room-requires
-    enum-known-refusal
-    enum-known-windows
-    cast-find-parents
-    find-parents-requires
-    returns
-    same-length
-    returns-2)
+    tie.close (tie.spec table-room-requires enum-known-refusal enum-known-windows cast-find-parents find-parents-requires returns
+    same-length returns-2)

@@ -81,17 +81,5 @@ returns-2 c = (
 
 pub fill-tables-spec : {M : Type 1} → statement M
 fill-tables-spec =
-    tie.close (tie.spec
-    smaller-requires
-    smaller-requires-2
-    table-room-requires
-    enum-known-refusal
-    enum-known-windows
-    cast-find-parents
-    find-parents-requires
-    cast-fill-lasts
-    fill-lasts-requires
-    returns
-    same-length
-    same-length-2
-    returns-2)
+    tie.close (tie.spec smaller-requires smaller-requires-2 table-room-requires enum-known-refusal enum-known-windows cast-find-parents
+    find-parents-requires cast-fill-lasts fill-lasts-requires returns same-length same-length-2 returns-2)

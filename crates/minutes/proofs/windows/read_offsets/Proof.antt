@@ -44,15 +44,5 @@ returns c = filling-end _ _ _ _ _ (c .loop-test .left) (c .before .loop .inv)
 
 pub read-offsets-spec : {M : Type 1} → statement M
 read-offsets-spec =
-    tie.close (tie.spec
-    Inv-loop
-    μ-loop
-    loop-holds
-    offset-at-requires
-    mul-offsets
-    slice-write-offsets
-    add-position
-    loop-less
-    loop-again
-    same-length
-    returns)
+    tie.close (tie.spec Inv-loop μ-loop loop-holds offset-at-requires mul-offsets slice-write-offsets add-position loop-less loop-again
+    same-length returns)

@@ -27,5 +27,4 @@ returns : tie.Need-returns
 returns c = omega arith
 
 pub pack-spec : {M : Type 1} → statement M
-pack-spec =
-    tie.close (tie.spec mul-result add-result mul-result-2 add-result-2 mul-result-3 add-result-3 returns)
+pack-spec = tie.close (tie.spec mul-result add-result mul-result-2 add-result-2 mul-result-3 add-result-3 returns)

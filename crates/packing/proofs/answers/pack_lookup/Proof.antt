@@ -26,5 +26,4 @@ unfolding packedLookup
 returns-2 c = rw (c .before .before .answer .given .1) (c .pack-refusal .ensures)
 
 pub pack-lookup-spec : {M : Type 1} → statement M
-pack-lookup-spec =
-    tie.close (tie.spec enum-told pack-requires enum-known-answer pack-refusal-requires returns returns-2)
+pack-lookup-spec = tie.close (tie.spec enum-told pack-requires enum-known-answer pack-refusal-requires returns returns-2)

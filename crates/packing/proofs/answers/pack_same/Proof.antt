@@ -37,13 +37,5 @@ returns-3 c = rw (c .before .before .answer .given .1) (c .pack-refusal .ensures
 
 pub pack-same-spec : {M : Type 1} → statement M
 pack-same-spec =
-    tie.close (tie.spec
-    enum-told
-    pack-requires
-    enum-told-2
-    pack-requires-2
-    enum-known-answer
-    pack-refusal-requires
-    returns
-    returns-2
+    tie.close (tie.spec enum-told pack-requires enum-told-2 pack-requires-2 enum-known-answer pack-refusal-requires returns returns-2
     returns-3)

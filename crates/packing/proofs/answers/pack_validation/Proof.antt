@@ -26,11 +26,4 @@ unfolding packedValidation
 returns-2 c = rw (c .before .before .answer2 .given .1) (c .pack-refusal .ensures)
 
 pub pack-validation-spec : {M : Type 1} → statement M
-pack-validation-spec =
-    tie.close (tie.spec
-    enum-known-answer
-    pack-requires
-    enum-known-answer-2
-    pack-refusal-requires
-    returns
-    returns-2)
+pack-validation-spec = tie.close (tie.spec enum-known-answer pack-requires enum-known-answer-2 pack-refusal-requires returns returns-2)

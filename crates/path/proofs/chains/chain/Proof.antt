@@ -97,22 +97,6 @@ returns-4 c = let b = c .before .before .before .before .before .before in
 
 pub chain-spec : {M : Type 1} → statement M
 chain-spec =
-    tie.close (tie.spec
-    slice-aggregate-parent-table
-    parent-table-requires
-    enum-known-windows
-    cast-windows
-    enum-known-refusal
-    returns
-    ask-positions-requires
-    enum-known-asked
-    returns-2
-    enum-told
-    slice-aggregate-write-between
-    write-between-requires
-    same-length
-    returns-3
-    slice-aggregate-write-between-2
-    write-between-requires-2
-    same-length-2
-    returns-4)
+    tie.close (tie.spec slice-aggregate-parent-table parent-table-requires enum-known-windows cast-windows enum-known-refusal returns
+    ask-positions-requires enum-known-asked returns-2 enum-told slice-aggregate-write-between write-between-requires same-length returns-3
+    slice-aggregate-write-between-2 write-between-requires-2 same-length-2 returns-4)

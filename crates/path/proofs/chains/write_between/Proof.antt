@@ -55,14 +55,5 @@ returns-3 c = let f = c .before .before .before .before in let g = f .before .be
 
 pub write-between-spec : {M : Type 1} → statement M
 write-between-spec =
-    tie.close (tie.spec
-    steps-before-requires
-    add-if1
-    returns
-    by-requires
-    returns-2
-    write-walk-requires
-    add-entries
-    cast-entries
-    same-length
-    returns-3)
+    tie.close (tie.spec steps-before-requires add-if1 returns by-requires returns-2 write-walk-requires add-entries cast-entries
+    same-length returns-3)

@@ -80,20 +80,6 @@ returns-4 c = let d = c .before .before .before .before in let e = d .before .be
 
 pub neighbours-spec : {M : Type 1} → statement M
 neighbours-spec =
-    tie.close (tie.spec
-    validate-requires
-    enum-known-windows
-    enum-known-refusal
-    returns
-    cast-if1
-    by-requires
-    returns-2
-    cast-count-neighbours
-    count-neighbours-requires
-    by-requires-2
-    returns-3
-    cast-write-neighbours
-    write-neighbours-requires
-    cast-listed
-    same-length
-    returns-4)
+    tie.close (tie.spec validate-requires enum-known-windows enum-known-refusal returns cast-if1 by-requires returns-2
+    cast-count-neighbours count-neighbours-requires by-requires-2 returns-3 cast-write-neighbours write-neighbours-requires cast-listed
+    same-length returns-4)

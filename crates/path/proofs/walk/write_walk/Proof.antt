@@ -67,21 +67,5 @@ returns c = let d = c .before .before in
 
 pub write-walk-spec : {M : Type 1} → statement M
 write-walk-spec =
-    tie.close (tie.spec
-    Inv-loop
-    μ-loop
-    loop-holds
-    cast-out
-    mul-out
-    slice-write-out
-    mul-at
-    shared-slice-read-at
-    cast-at
-    add-step
-    loop-less
-    loop-again
-    cast-out-2
-    mul-out-2
-    slice-write-out-2
-    same-length
-    returns)
+    tie.close (tie.spec Inv-loop μ-loop loop-holds cast-out mul-out slice-write-out mul-at shared-slice-read-at cast-at add-step loop-less
+    loop-again cast-out-2 mul-out-2 slice-write-out-2 same-length returns)

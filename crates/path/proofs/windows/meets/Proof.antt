@@ -29,11 +29,4 @@ returns-3 c = let d = c .before .before .before in
     (c .overlap-in-order2 .ensures)
 
 pub meets-spec : {M : Type 1} → statement M
-meets-spec =
-    tie.close (tie.spec
-    returns
-    window-at-requires
-    overlap-in-order-requires
-    returns-2
-    overlap-in-order-requires-2
-    returns-3)
+meets-spec = tie.close (tie.spec returns window-at-requires overlap-in-order-requires returns-2 overlap-in-order-requires-2 returns-3)

@@ -36,13 +36,5 @@ returns c = let below = c .before .before .before .before .before .before .befor
 
 pub poddreshi-build-spec : {M : Type 1} → statement M
 poddreshi-build-spec =
-    tie.close (tie.spec
-    build-requires
-    pack-build-requires
-    same-length
-    same-length-2
-    same-length-3
-    same-length-4
-    same-length-5
-    same-length-6
-    returns)
+    tie.close (tie.spec build-requires pack-build-requires same-length same-length-2 same-length-3 same-length-4 same-length-5
+    same-length-6 returns)

@@ -34,11 +34,4 @@ returns c = let told = c .before .before .lookup-refusal .ensures in (
 )
 
 pub poddreshi-lookup-spec : {M : Type 1} → statement M
-poddreshi-lookup-spec =
-    tie.close (tie.spec
-    lookup-refusal-requires
-    enum-told
-    mul-offset
-    enum-told-2
-    pack-lookup-requires
-    returns)
+poddreshi-lookup-spec = tie.close (tie.spec lookup-refusal-requires enum-told mul-offset enum-told-2 pack-lookup-requires returns)

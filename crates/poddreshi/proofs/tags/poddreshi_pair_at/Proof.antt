@@ -40,13 +40,5 @@ returns-2 c = let d = c .before .before .before in
 
 pub poddreshi-pair-at-spec : {M : Type 1} → statement M
 poddreshi-pair-at-spec =
-    tie.close (tie.spec
-    ask-places-requires
-    enum-known-asked
-    pack-pair-requires
-    returns
-    enum-told
-    lookup-requires
-    lookup-requires-2
-    poddreshi-pair-requires
-    returns-2)
+    tie.close (tie.spec ask-places-requires enum-known-asked pack-pair-requires returns enum-told lookup-requires lookup-requires-2
+    poddreshi-pair-requires returns-2)

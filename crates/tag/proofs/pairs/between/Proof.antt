@@ -41,13 +41,4 @@ returns-4 c = let d = c .before .before .before in
     sym (between-falling-far _ _ (d .if1 .left) (⊎-elim (λ w. inr (ltb-false _ _ (w .2 .left))) (λ w. inl (w .left)) (c .if4 .came)))
 
 pub between-spec : {M : Type 1} → statement M
-between-spec =
-    tie.close (tie.spec
-    sub-levels
-    add-result
-    returns
-    add-result-2
-    returns-2
-    returns-3
-    add-result-3
-    returns-4)
+between-spec = tie.close (tie.spec sub-levels add-result returns add-result-2 returns-2 returns-3 add-result-3 returns-4)

@@ -63,15 +63,5 @@ returns-5 c = let f = c .before .before .before in
 
 pub compare-spec : {M : Type 1} → statement M
 compare-spec =
-    tie.close (tie.spec
-    by-requires
-    from-requires
-    returns
-    returns-2
-    one-window-requires
-    returns-3
-    comes-first-requires
-    between-requires
-    returns-4
-    between-requires-2
-    returns-5)
+    tie.close (tie.spec by-requires from-requires returns returns-2 one-window-requires returns-3 comes-first-requires between-requires
+    returns-4 between-requires-2 returns-5)

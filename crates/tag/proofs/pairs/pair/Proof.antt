@@ -66,16 +66,5 @@ returns-3 c = let d = c .before in
 
 pub pair-spec : {M : Type 1} → statement M
 pair-spec =
-    tie.close (tie.spec
-    read-requires
-    enum-known-first-read
-    enum-told
-    refusal-requires
-    returns
-    read-requires-2
-    enum-known-second-read
-    enum-told-2
-    refusal-requires-2
-    returns-2
-    compare-requires
-    returns-3)
+    tie.close (tie.spec read-requires enum-known-first-read enum-told refusal-requires returns read-requires-2 enum-known-second-read
+    enum-told-2 refusal-requires-2 returns-2 compare-requires returns-3)

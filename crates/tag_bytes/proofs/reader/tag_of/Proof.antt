@@ -29,10 +29,4 @@ returns c = let d = c .before .before in
 
 pub tag-of-spec : {M : Type 1} → statement M
 tag-of-spec =
-    tie.close (tie.spec
-    read-u16-requires
-    read-u16-requires-2
-    read-u16-requires-3
-    read-u16-requires-4
-    read-u16-requires-5
-    returns)
+    tie.close (tie.spec read-u16-requires read-u16-requires-2 read-u16-requires-3 read-u16-requires-4 read-u16-requires-5 returns)

@@ -42,13 +42,5 @@ returns-2 c = c .part .ensures ∙ sym (part-found _ _ (found (c .before)))
 
 pub lookup-spec : {M : Type 1} → statement M
 lookup-spec =
-    tie.close (tie.spec
-    lookup-refusal-requires
-    enum-told
-    enum-told-2
-    sub-result
-    part-result-start
-    part-result-end
-    returns
-    part-requires
+    tie.close (tie.spec lookup-refusal-requires enum-told enum-told-2 sub-result part-result-start part-result-end returns part-requires
     returns-2)

@@ -36,11 +36,5 @@ returns c = let fifth = c .before .before in
 
 pub put-spec : {M : Type 1} → statement M
 put-spec =
-    tie.close (tie.spec
-    write-u16-requires
-    write-u16-requires-2
-    write-u16-requires-3
-    write-u16-requires-4
-    write-u16-requires-5
-    same-length
+    tie.close (tie.spec write-u16-requires write-u16-requires-2 write-u16-requires-3 write-u16-requires-4 write-u16-requires-5 same-length
     returns)

@@ -44,13 +44,4 @@ returns-3 c = let d = c .before .before .before .before in (
 )
 
 pub write-spec : {M : Type 1} → statement M
-write-spec =
-    tie.close (tie.spec
-    by-requires
-    returns
-    within-limit-requires
-    by-requires-2
-    returns-2
-    put-requires
-    same-length
-    returns-3)
+write-spec = tie.close (tie.spec by-requires returns within-limit-requires by-requires-2 returns-2 put-requires same-length returns-3)

@@ -199,28 +199,7 @@ same-length-7 c = search needs
 
 pub build-spec : {M : Type 1} → statement M
 build-spec =
-    tie.close (tie.spec
-    smaller-requires
-    smaller-requires-2
-    smaller-requires-3
-    smaller-requires-4
-    slice-aggregate-fill-tables
-    fill-tables-requires
-    enum-known-windows
-    enum-known-refusal
-    same-length
-    returns
-    cast-n
-    fill-levels-requires
-    fill-ranks-requires
-    slice-aggregate-look-up
-    look-up-requires
-    read-u16-requires
-    write-tags-requires
-    same-length-2
-    same-length-3
-    same-length-4
-    same-length-5
-    same-length-6
-    same-length-7
-    returns-2)
+    tie.close (tie.spec smaller-requires smaller-requires-2 smaller-requires-3 smaller-requires-4 slice-aggregate-fill-tables
+    fill-tables-requires enum-known-windows enum-known-refusal same-length returns cast-n fill-levels-requires fill-ranks-requires
+    slice-aggregate-look-up look-up-requires read-u16-requires write-tags-requires same-length-2 same-length-3 same-length-4 same-length-5
+    same-length-6 same-length-7 returns-2)

@@ -33,12 +33,5 @@ returns c = let b = c .before .before .before .before .before .before .before .b
 
 pub tag-file-spec : {M : Type 1} → statement M
 tag-file-spec =
-    tie.close (tie.spec
-    slice-aggregate-build
-    slice-aggregate-build-2
-    slice-aggregate-build-3
-    slice-aggregate-build-4
-    slice-aggregate-build-5
-    build-requires
-    same-length
-    returns)
+    tie.close (tie.spec slice-aggregate-build slice-aggregate-build-2 slice-aggregate-build-3 slice-aggregate-build-4
+    slice-aggregate-build-5 build-requires same-length returns)

@@ -76,25 +76,6 @@ returns c = tagged-end _ _ _ _ _ (c .loop-test .left) (c .before .loop .inv)
 
 pub write-tags-spec : {M : Type 1} → statement M
 write-tags-spec =
-    tie.close (tie.spec
-    Inv-loop
-    μ-loop
-    loop-holds
-    mul-at
-    mul-write
-    shared-slice-read-write
-    mul-write-2
-    shared-slice-read-write-2
-    mul-write-3
-    shared-slice-read-write-3
-    mul-write-4
-    shared-slice-read-write-4
-    sub-write
-    part-write-start
-    part-write-end
-    write-requires
-    add-position
-    loop-less
-    loop-again
-    same-length
-    returns)
+    tie.close (tie.spec Inv-loop μ-loop loop-holds mul-at mul-write shared-slice-read-write mul-write-2 shared-slice-read-write-2
+    mul-write-3 shared-slice-read-write-3 mul-write-4 shared-slice-read-write-4 sub-write part-write-start part-write-end write-requires
+    add-position loop-less loop-again same-length returns)

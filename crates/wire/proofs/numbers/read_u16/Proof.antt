@@ -28,11 +28,4 @@ unfolding le16
 returns-2 c = omega arith
 
 pub read-u16-spec : {M : Type 1} → statement M
-read-u16-spec =
-    tie.close (tie.spec
-    returns
-    shared-slice-read-two-bytes
-    add-byte-at
-    byte-at-requires
-    two-bytes-requires
-    returns-2)
+read-u16-spec = tie.close (tie.spec returns shared-slice-read-two-bytes add-byte-at byte-at-requires two-bytes-requires returns-2)

@@ -73,24 +73,7 @@ returns-3 c = omega arith
 
 pub read-u32-spec : {M : Type 1} → statement M
 read-u32-spec =
-    tie.close (tie.spec
-    returns
-    sub-if2
-    shared-slice-read-four-bytes
-    add-four-bytes
-    shared-slice-read-four-bytes-2
-    add-four-bytes-2
-    shared-slice-read-four-bytes-3
-    add-four-bytes-3
-    shared-slice-read-four-bytes-4
-    four-bytes-requires
-    returns-2
-    shared-slice-read-four-bytes-5
-    add-byte-at
-    byte-at-requires
-    add-byte-at-2
-    byte-at-requires-2
-    add-byte-at-3
-    byte-at-requires-3
-    four-bytes-requires-2
-    returns-3)
+    tie.close (tie.spec returns sub-if2 shared-slice-read-four-bytes add-four-bytes shared-slice-read-four-bytes-2 add-four-bytes-2
+    shared-slice-read-four-bytes-3 add-four-bytes-3 shared-slice-read-four-bytes-4 four-bytes-requires returns-2
+    shared-slice-read-four-bytes-5 add-byte-at byte-at-requires add-byte-at-2 byte-at-requires-2 add-byte-at-3 byte-at-requires-3
+    four-bytes-requires-2 returns-3)

@@ -40,14 +40,4 @@ returns-3 c = sym (placed-two _ _ _ (omega arith))
 
 pub write-u16-spec : {M : Type 1} → statement M
 write-u16-spec =
-    tie.close (tie.spec
-    returns
-    sub-if2
-    returns-2
-    cast-out
-    slice-write-out
-    cast-out-2
-    add-out
-    slice-write-out-2
-    same-length
-    returns-3)
+    tie.close (tie.spec returns sub-if2 returns-2 cast-out slice-write-out cast-out-2 add-out slice-write-out-2 same-length returns-3)

@@ -58,20 +58,5 @@ returns-3 c = sym (placed-four _ _ _ (omega arith))
 
 pub write-u32-spec : {M : Type 1} → statement M
 write-u32-spec =
-    tie.close (tie.spec
-    returns
-    sub-if2
-    returns-2
-    cast-out
-    slice-write-out
-    cast-out-2
-    add-out
-    slice-write-out-2
-    cast-out-3
-    add-out-2
-    slice-write-out-3
-    cast-out-4
-    add-out-3
-    slice-write-out-4
-    same-length
-    returns-3)
+    tie.close (tie.spec returns sub-if2 returns-2 cast-out slice-write-out cast-out-2 add-out slice-write-out-2 cast-out-3 add-out-2
+    slice-write-out-3 cast-out-4 add-out-3 slice-write-out-4 same-length returns-3)

@@ -33,12 +33,4 @@ returns-3 c = read-valid _ _ (c .before .before .before .if1 .left) (c .before .
     (sym (c .before .within-limit .ensures) ∙ not-false _ (c .if2 .left))
 
 pub read-spec : {M : Type 1} → statement M
-read-spec =
-    tie.close (tie.spec
-    by-requires
-    returns
-    tag-of-requires
-    within-limit-requires
-    by-requires-2
-    returns-2
-    returns-3)
+read-spec = tie.close (tie.spec by-requires returns tag-of-requires within-limit-requires by-requires-2 returns-2 returns-3)
