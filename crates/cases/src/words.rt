@@ -1,52 +1,38 @@
-// Names, numbers and answers on standard output.
+// Rows, answers and tables on standard output, as numbers.
 use libc::STDOUT_FILENO;
 
-pub(crate) fn print(text: &[u8]) {
-    io::write_all(STDOUT_FILENO, text);
-}
-
 pub(crate) fn print_number(number: u64) {
-    print(b" ");
+    io::write_all(STDOUT_FILENO, b" ");
     io::print_decimal(STDOUT_FILENO, number);
 }
 
-fn print_kind(kind: u64) {
-    match kind {
-        0 => print(b": refused"),
-        1 => print(b": accepted"),
-        2 => print(b": built"),
-        3 => print(b": reach"),
-        4 => print(b": chain"),
-        5 => print(b": no chain"),
-        6 => print(b": neighbours"),
-        7 => print(b": same"),
-        8 => print(b": different"),
-        9 => print(b": handovers"),
-        10 => print(b": found"),
-        _ => print(b": written"),
+// A row's numbers, which begin a line.
+pub(crate) fn print_row(row: [u64; 7]) {
+    io::write_all(STDOUT_FILENO, b"case");
+    let mut at = 0;
+    while at < 7 {
+        print_number(row[at]);
+        at += 1;
     }
 }
 
-// An answer's kind and its three numbers, which end a line.
+// An answer's kind and its three numbers.
 pub(crate) fn print_answer(answer: u64) {
-    print_kind(answer % 65536);
-    print_number(answer / 65536 % 65536);
-    print_number(answer / 4294967296 % 65536);
-    print_number(answer / 281474976710656);
-    print(b"\n");
+    io::write_all(STDOUT_FILENO, b":");
+    let mut rest = answer;
+    let mut at: usize = 0;
+    while at < 4 {
+        print_number(rest % 65536);
+        rest /= 65536;
+        at += 1;
+    }
 }
 
-fn print_entry(entry: u16) {
-    print_number(entry as u64);
-}
-
-// A table of five entries, as a line.
 pub(crate) fn print_table(table: [u16; 5]) {
-    print(b"  table");
-    print_entry(table[0]);
-    print_entry(table[1]);
-    print_entry(table[2]);
-    print_entry(table[3]);
-    print_entry(table[4]);
-    print(b"\n");
+    io::write_all(STDOUT_FILENO, b":");
+    let mut at = 0;
+    while at < 5 {
+        print_number(table[at] as u64);
+        at += 1;
+    }
 }
