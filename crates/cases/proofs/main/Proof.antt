@@ -33,15 +33,4 @@ returns : tie.Need-returns Inv-loop μ-loop
 returns c = search needs
 
 pub main-spec : {M : Type 1} → statement M
-main-spec =
-    tie.close
-    (tie.spec
-    Inv-loop
-    μ-loop
-    loop-holds
-    row-at-requires
-    try-row-requires
-    add-at
-    loop-less
-    loop-again
-    returns)
+main-spec = tie.close (tie.spec Inv-loop μ-loop loop-holds row-at-requires try-row-requires add-at loop-less loop-again returns)

@@ -52,19 +52,5 @@ returns c = search needs
 
 pub put-numbers-spec : {M : Type 1} → statement M
 put-numbers-spec =
-    tie.close
-    (tie.spec
-    Inv-loop
-    μ-loop
-    loop-holds
-    mul-write-u16
-    add-write-u16
-    mul-write-u16-2
-    array-read-write-u16
-    cast-write-u16
-    write-u16-requires
-    add-at
-    loop-less
-    loop-again
-    same-length
-    returns)
+    tie.close (tie.spec Inv-loop μ-loop loop-holds mul-write-u16 add-write-u16 mul-write-u16-2 array-read-write-u16 cast-write-u16
+    write-u16-requires add-at loop-less loop-again same-length returns)

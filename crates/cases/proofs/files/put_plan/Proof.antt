@@ -50,18 +50,5 @@ returns c = search needs
 
 pub put-plan-spec : {M : Type 1} → statement M
 put-plan-spec =
-    tie.close
-    (tie.spec
-    Inv-loop
-    μ-loop
-    put-numbers-requires
-    loop-holds
-    window-of-requires
-    mul-write-window
-    add-write-window
-    write-window-requires
-    add-position
-    loop-less
-    loop-again
-    same-length
-    returns)
+    tie.close (tie.spec Inv-loop μ-loop put-numbers-requires loop-holds window-of-requires mul-write-window add-write-window
+    write-window-requires add-position loop-less loop-again same-length returns)

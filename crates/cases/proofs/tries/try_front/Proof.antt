@@ -44,17 +44,5 @@ returns-2 c = search needs
 
 pub try-front-spec : {M : Type 1} → statement M
 try-front-spec =
-    tie.close
-    (tie.spec
-    slice-aggregate-front
-    slice-aggregate-tag-file
-    tag-file-requires
-    pack-build-requires
-    print-answer-requires
-    slice-aggregate-chain
-    chain-requires
-    pack-chain-requires
-    print-answer-requires-2
-    print-table-requires
-    returns
-    returns-2)
+    tie.close (tie.spec slice-aggregate-front slice-aggregate-tag-file tag-file-requires pack-build-requires print-answer-requires
+    slice-aggregate-chain chain-requires pack-chain-requires print-answer-requires-2 print-table-requires returns returns-2)

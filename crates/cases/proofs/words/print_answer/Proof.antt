@@ -37,15 +37,5 @@ returns c = search needs
 
 pub print-answer-spec : {M : Type 1} → statement M
 print-answer-spec =
-    tie.close
-    (tie.spec
-    Inv-loop
-    μ-loop
-    slice-aggregate-write-all
-    write-all-requires
-    loop-holds
-    print-number-requires
-    add-at
-    loop-less
-    loop-again
-    returns)
+    tie.close (tie.spec Inv-loop μ-loop slice-aggregate-write-all write-all-requires loop-holds print-number-requires add-at loop-less
+    loop-again returns)

@@ -43,17 +43,5 @@ returns c = search needs
 
 pub print-row-spec : {M : Type 1} → statement M
 print-row-spec =
-    tie.close
-    (tie.spec
-    Inv-loop
-    μ-loop
-    slice-aggregate-write-all
-    write-all-requires
-    loop-holds
-    mul-print-number
-    array-read-print-number
-    print-number-requires
-    add-at
-    loop-less
-    loop-again
-    returns)
+    tie.close (tie.spec Inv-loop μ-loop slice-aggregate-write-all write-all-requires loop-holds mul-print-number array-read-print-number
+    print-number-requires add-at loop-less loop-again returns)

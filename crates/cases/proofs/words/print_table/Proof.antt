@@ -46,18 +46,5 @@ returns c = search needs
 
 pub print-table-spec : {M : Type 1} → statement M
 print-table-spec =
-    tie.close
-    (tie.spec
-    Inv-loop
-    μ-loop
-    slice-aggregate-write-all
-    write-all-requires
-    loop-holds
-    mul-print-number
-    array-read-print-number
-    cast-print-number
-    print-number-requires
-    add-at
-    loop-less
-    loop-again
-    returns)
+    tie.close (tie.spec Inv-loop μ-loop slice-aggregate-write-all write-all-requires loop-holds mul-print-number array-read-print-number
+    cast-print-number print-number-requires add-at loop-less loop-again returns)
