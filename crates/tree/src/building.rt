@@ -5,8 +5,9 @@ use minutes::TableAnswer;
 use plan::GREATEST_COUNT;
 use tag_bytes::Tag;
 ghost use mathlib.Core.Path.{_≡_};
-ghost use Prim.Native.Nat.{min};
+ghost use Prim.Native.Nat.{_/_, min};
 ghost use lib.ListN.{length};
+ghost use Rattle.tag_bytes.specs.Fields.{tagLength};
 ghost use Rattle.minutes.specs.Tables.{parentOf};
 ghost use Rattle.tree.specs.Tables.{componentOf, depthOf, rankOf, lastRankOf, numbersAt};
 ghost use Rattle.tree.specs.Build.{buildAnswerOf, tagsAnswerOf, afterBuild, afterTags};
@@ -15,6 +16,20 @@ fn smaller(first: usize, second: usize) -> usize
     ensures { λ r. ⌜ r ≡ min first second ⌝ }
 {
     if first < second { first } else { second }
+}
+
+// How many windows there is room for in each of four tables and, by its bytes, in the tag file.
+fn least_room(
+    components: usize,
+    depths: usize,
+    ranks: usize,
+    last_ranks: usize,
+    tags: usize,
+) -> usize
+    ensures { λ r. ⌜ r ≡ min (min (min (min components depths) ranks) «last_ranks») (tags / tagLength) ⌝ }
+{
+    let first = smaller(smaller(components, depths), ranks);
+    smaller(smaller(first, last_ranks), tags / Tag::LENGTH)
 }
 
 // The five tables and the tag file of a plan.
@@ -36,8 +51,13 @@ pub fn build(
     ensures { λ r. ⌜ now (tags .exit) ≡ afterTags r (numbersAt (now (file .entry))) (now (tags .entry)) ⌝ }
 {
     let mut lasts = [0; GREATEST_COUNT];
-    let first = smaller(smaller(components.len(), depths.len()), ranks.len());
-    let room = smaller(smaller(first, last_ranks.len()), tags.len() / Tag::LENGTH);
+    let room = least_room(
+        components.len(),
+        depths.len(),
+        ranks.len(),
+        last_ranks.len(),
+        tags.len(),
+    );
     let windows = match minutes::fill_tables(file, room, parents, &mut lasts) {
         TableAnswer::Filled { windows } => windows,
         TableAnswer::Refused(refusal) => return BuildAnswer::Refused(refusal),
