@@ -165,7 +165,10 @@ class Inputs(Case):
 
     def test_an_interrupt_is_quiet(self):
         front = subprocess.Popen(
-            [sys.executable, str(FRONT), "list", "-"], stdin=subprocess.PIPE, stdout=subprocess.PIPE, stderr=subprocess.PIPE
+            [sys.executable, str(FRONT), "list", "-"],
+            **dict.fromkeys(("stdin", "stdout", "stderr"), subprocess.PIPE),
+            # Tests that a shell runs in the background ignore interrupts, and whatever they start would too.
+            preexec_fn=lambda: signal.signal(signal.SIGINT, signal.SIG_DFL),
         )
         front.stdin.write(b"\0")
         front.stdin.flush()

@@ -4,12 +4,14 @@ use crate::words;
 use crate::words::print_answer;
 use crate::words::print_table;
 use libc::STDOUT_FILENO;
+use plan::GREATEST_COUNT;
+use tag::Tag;
 
 // The build of so many bytes of a file, and the chain between two positions in them.
 fn try_front(file: &[u8], bytes: usize, first: usize, second: usize) {
     if bytes <= file.len() {
         let front = &file[..bytes];
-        let mut tags = [0; 20480];
+        let mut tags = [0; Tag::LENGTH * GREATEST_COUNT];
         let mut out = [9; 5];
         print_answer(packing::pack_build(tree::tag_file(front, &mut tags)));
         print_answer(packing::pack_chain(path::chain(front, first, second, &mut out)));
@@ -26,7 +28,7 @@ fn try_file(row: [u64; 7]) {
 
 // Two positions, by their tags and by the chain between them.
 fn try_pair(file: &[u8], first: usize, second: usize) {
-    let mut tags = [0; 70];
+    let mut tags = [0; Tag::LENGTH * 7];
     tree::tag_file(file, &mut tags);
     print_answer(packing::pack_pair(tag::pair_at(&tags, first, second)));
     try_front(file, file.len(), first, second);

@@ -4,6 +4,7 @@ mod rows;
 
 use libc::STDIN_FILENO;
 use plan::GREATEST_COUNT;
+use tag_bytes::Tag;
 
 fn main() {
     // One byte more than any plan, so that a file that is too long is seen to be.
@@ -14,7 +15,7 @@ fn main() {
     let mut depths = [0; GREATEST_COUNT];
     let mut ranks = [0; GREATEST_COUNT];
     let mut last_ranks = [0; GREATEST_COUNT];
-    let mut tags = [0; 20480];
+    let mut tags = [0; Tag::LENGTH * GREATEST_COUNT];
     let answer = tree::build(
         &file[..read],
         &mut parents,
