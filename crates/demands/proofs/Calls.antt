@@ -25,7 +25,7 @@ use Rattle.tag_bytes.specs.Fields.{tagOf, tagWith, tagBytes}
 use Rattle.tag_bytes.proofs.Fields.{tagOf-tagBytes}
 use Rattle.tag_bytes.proofs.TagFile.{tagFile-lookup}
 use Rattle.reaching.specs.declared.ReachAnswer.the-variants as ReachAnswer
-use Rattle.tree.specs.Tables.{numbersAt}
+use Rattle.numbering.specs.Tables.{numbersAt}
 use Rattle.reaching.specs.Reach.{reachQuestions, reachAnswerOf}
 use Rattle.sameness.specs.declared.SameAnswer.the-variants as SameAnswer
 use Rattle.sameness.specs.Sameness.{sameOverlap, sameAnswerOf}

@@ -16,7 +16,7 @@ use Rattle.plan.specs.Overlap.{overlaps}
 use Rattle.plan.specs.Validation.{planQuestions, AcceptedPlan}
 use Rattle.plan.proofs.Plan12.{meaning}
 use Rattle.plan.proofs.Overlap.{interval-order}
-use Rattle.tree.specs.Tables.{componentCount}
+use Rattle.numbering.specs.Tables.{componentCount}
 use Rattle.path.specs.Chain.{chainBetween}
 use Rattle.demands.specs.Cases.{plan12, touching, overlapping, Case, cases, Says, CaseHolds, CasesHold}
 

@@ -29,7 +29,7 @@ use Rattle.tag.specs.declared.pairs.PairAnswer.{PairAnswer}
 use Rattle.tag.specs.declared.pairs.PairAnswer.the-variants as PairAnswer
 use Rattle.tag.specs.Pairing.{agreeing, compareQuestions, answerOf, comparedOf, pairAnswerOf}
 use Rattle.tag.proofs.Pairing.{pair-tagFile}
-use Rattle.tree.specs.Tables.{numbersAt}
+use Rattle.numbering.specs.Tables.{numbersAt}
 use Rattle.path.specs.declared.answers.ChainAnswer.{ChainAnswer}
 use Rattle.path.specs.declared.answers.ChainAnswer.the-variants as ChainAnswer
 use Rattle.path.specs.Chain.{chainBetween, chainQuestions, chainFound, chainAnswerOf, afterChain}

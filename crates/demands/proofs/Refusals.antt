@@ -21,10 +21,11 @@ use Rattle.tag_bytes.specs.Writing.{writeAnswerOf, afterWrite}
 use Rattle.tag_bytes.specs.TagFile.{tagPart, lookupAnswerOf}
 use Rattle.tag_bytes.proofs.TagFile.{part-refused}
 use Rattle.tag.specs.Pairing.{answerOf, pairAnswerOf, pairAtAnswerOf}
-use Rattle.tree.specs.declared.answers.BuildAnswer.the-variants as BuildAnswer
+use Rattle.numbering.specs.declared.answers.BuildAnswer.the-variants as BuildAnswer
 use Rattle.reaching.specs.declared.ReachAnswer.the-variants as ReachAnswer
 use Rattle.minutes.specs.declared.answers.TableAnswer.the-variants as TableAnswer
-use Rattle.tree.specs.Build.{buildAnswerOf, tagsAnswerOf, afterBuild, afterTags}
+use Rattle.numbering.specs.Numbering.{numbersAnswerOf, afterBuild}
+use Rattle.tree.specs.Build.{buildAnswerOf, tagsAnswerOf, afterTags}
 use Rattle.minutes.specs.SingleTable.{tableAnswerOf, afterTable}
 use Rattle.reaching.specs.Reach.{reachAnswerOf}
 use Rattle.path.specs.declared.answers.ChainAnswer.the-variants as ChainAnswer
@@ -69,7 +70,7 @@ same-found true r e = let z : _≡_ {A = ℕ} 0 1 = cc in omega arith
 same-found false r e = let z : _≡_ {A = ℕ} 0 1 = cc in omega arith
 
 pub demand-1 : Demand1
-unfolding validateAnswerOf buildAnswerOf tagsAnswerOf tableAnswerOf reachAnswerOf chainAnswerOf neighboursAnswerOf sameAnswerOf
+unfolding validateAnswerOf numbersAnswerOf buildAnswerOf tagsAnswerOf tableAnswerOf reachAnswerOf chainAnswerOf neighboursAnswerOf sameAnswerOf
     readAnswerOf writeAnswerOf lookupAnswerOf pairAnswerOf pairAtAnswerOf afterBuild afterTags afterTable afterChain afterNeighbours
     afterWrite
 demand-1 =
@@ -78,6 +79,7 @@ demand-1 =
       building = λ file p c d r l t. refuses BuildAnswer.Refused _ (λ r s e. cc) (λ r e. let z : _≡_ {A = ℕ} 0 1 = cc in omega arith) _;
       tagging = λ file room. refuses BuildAnswer.Refused _ (λ r s e. cc) (λ r e. let z : _≡_ {A = ℕ} 0 1 = cc in omega arith) _;
       tabling = λ file room. refuses TableAnswer.Refused _ (λ r s e. cc) (λ r e. let z : _≡_ {A = ℕ} 0 1 = cc in omega arith) _;
+      numbering = λ file room. refuses BuildAnswer.Refused _ (λ r s e. cc) (λ r e. let z : _≡_ {A = ℕ} 0 1 = cc in omega arith) _;
       reaching = λ file at. refuses ReachAnswer.Refused _ (λ r s e. cc) (λ r e. let z : _≡_ {A = ℕ} 0 1 = cc in omega arith) _;
       chaining = λ file first second room. refuses ChainAnswer.Refused _ (λ r s e. cc) (chain-found (chainBetween file first second)) _;
       neighbouring = λ file at room. refuses NeighboursAnswer.Refused _ (λ r s e. cc) (λ r e. let z : _≡_ {A = ℕ} 0 1 = cc in omega arith) _;

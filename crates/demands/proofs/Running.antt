@@ -24,9 +24,9 @@ use Rattle.tag_bytes.specs.TagFile.{tagFile}
 use Rattle.tag.specs.Pairing.{pairAnswerOf, pairAtAnswerOf}
 use Rattle.tag_bytes.proofs.TagFile.{length-tagFile}
 use Rattle.tag.proofs.Pairing.{pair-at-tagFile}
-use Rattle.tree.specs.declared.answers.BuildAnswer.{BuildAnswer}
-use Rattle.tree.specs.declared.answers.BuildAnswer.the-variants.{Built, Refused}
-use Rattle.tree.specs.Tables.{componentCount, numbersAt}
+use Rattle.numbering.specs.declared.answers.BuildAnswer.{BuildAnswer}
+use Rattle.numbering.specs.declared.answers.BuildAnswer.the-variants.{Built, Refused}
+use Rattle.numbering.specs.Tables.{componentCount, numbersAt}
 use Rattle.tree.specs.Build.{tagsQuestions, tagsAnswerOf, afterTags}
 use Rattle.demands.specs.EndToEnd.{tagAt, pairFromPlan}
 

@@ -11,7 +11,7 @@ use Rattle.plan.specs.{File.windowCount, Overlap.overlaps, Validation.planQuest
 use Rattle.tag_bytes.specs.TagFile.{tagFile, lookupPart}
 use Rattle.tag.specs.{declared.pairs.PairAnswer.PairAnswer, Pairing.pairAnswerOf}
 use Rattle.tag.specs.declared.pairs.PairAnswer.the-variants as PairAnswer
-use Rattle.tree.specs.Tables.{numbersAt}
+use Rattle.numbering.specs.Tables.{numbersAt}
 use Rattle.path.specs.{declared.answers.ChainAnswer.ChainAnswer, Chain.chainBetween, Chain.chainAnswerOf, Chain.afterChain}
 use Rattle.path.specs.declared.answers.ChainAnswer.the-variants as ChainAnswer
 

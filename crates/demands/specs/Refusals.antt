@@ -17,8 +17,9 @@ use Rattle.tag.specs.Pairing.{pairQuestions, pairAnswerOf, pairAtQuestions, pai
 use Rattle.tag.specs.declared.pairs.PairAnswer.the-variants as PairAnswer
 use Rattle.minutes.specs.SingleTable.{tableQuestions, tableAnswerOf, afterTable}
 use Rattle.minutes.specs.declared.answers.TableAnswer.the-variants as TableAnswer
-use Rattle.tree.specs.Build.{buildQuestions, buildAnswerOf, tagsQuestions, tagsAnswerOf, afterBuild, afterTags}
-use Rattle.tree.specs.declared.answers.BuildAnswer.the-variants as BuildAnswer
+use Rattle.numbering.specs.Numbering.{numbersAnswerOf, afterBuild}
+use Rattle.tree.specs.Build.{buildQuestions, buildAnswerOf, tagsQuestions, tagsAnswerOf, afterTags}
+use Rattle.numbering.specs.declared.answers.BuildAnswer.the-variants as BuildAnswer
 use Rattle.reaching.specs.Reach.{reachQuestions, reachAnswerOf}
 use Rattle.reaching.specs.declared.ReachAnswer.the-variants as ReachAnswer
 use Rattle.path.specs.Chain.{chainQuestions, chainAnswerOf, afterChain}
@@ -38,15 +39,14 @@ abbrev pub Refuses : {A : Type 0} → List Question → (Refusal → A) → A �
 Refuses questions refused answer = (r : Refusal) → (answer ≡ refused r) ↔ FirstNo questions r
 
 pub record Demand1 : Type 0 where
-  -- Each call refuses exactly what its questions do, with their number, input and position. On a plan:
+  -- Each call refuses exactly what its questions do, with their number, input and position. On a plan (p to t: rooms of the tables):
   pub validating : (file : List ℕ) → Refuses (planQuestions file) Validation.Refused (validateAnswerOf file)
   pub building :
-      (file : List ℕ) (parents components depths ranks lastRanks tags : ℕ) →
-      Refuses (buildQuestions file parents components depths ranks lastRanks tags) BuildAnswer.Refused
-      (buildAnswerOf file parents components depths ranks lastRanks tags)
+      (file : List ℕ) (p c d r l t : ℕ) → Refuses (buildQuestions file p c d r l t) BuildAnswer.Refused (buildAnswerOf file p c d r l t)
   pub tagging : (file : List ℕ) (room : ℕ) → Refuses (tagsQuestions file room) BuildAnswer.Refused (tagsAnswerOf file room)
-  -- (this one is that of the parent table and of the last table)
+  -- (the parent table, the last table or both, and then all five; `room` is the least that there is)
   pub tabling : (file : List ℕ) (room : ℕ) → Refuses (tableQuestions file room) TableAnswer.Refused (tableAnswerOf file room)
+  pub numbering : (file : List ℕ) (room : ℕ) → Refuses (tableQuestions file room) BuildAnswer.Refused (numbersAnswerOf file room)
   pub reaching : (file : List ℕ) (v : ℕ) → Refuses (reachQuestions file v) ReachAnswer.Refused (reachAnswerOf file v)
   pub chaining : (file : List ℕ) (u v room : ℕ) → Refuses (chainQuestions file u v room) ChainAnswer.Refused (chainAnswerOf file u v room)
   pub neighbouring :

@@ -12,9 +12,10 @@ use Rattle.tag_bytes.specs.{Reading.readAnswerOf, Writing.writeAnswerOf, Writin
 use Rattle.tag_bytes.specs.declared.reader.TagRead.the-variants as TagRead
 use Rattle.tag_bytes.specs.declared.writer.WriteAnswer.the-variants as WriteAnswer
 use Rattle.minutes.specs.Tables.{parentOf}
-use Rattle.tree.specs.Tables.{componentOf, depthOf, rankOf, lastRankOf, componentCount, numbersAt}
-use Rattle.tree.specs.{declared.answers.BuildAnswer.BuildAnswer, Build.buildAnswerOf, Build.afterBuild, Build.afterTags}
-use Rattle.tree.specs.declared.answers.BuildAnswer.the-variants as BuildAnswer
+use Rattle.numbering.specs.Tables.{componentOf, depthOf, rankOf, lastRankOf, componentCount, numbersAt}
+use Rattle.numbering.specs.{declared.answers.BuildAnswer.BuildAnswer, Numbering.afterBuild}
+use Rattle.tree.specs.Build.{buildAnswerOf, afterTags}
+use Rattle.numbering.specs.declared.answers.BuildAnswer.the-variants as BuildAnswer
 use Rattle.demands.specs.EndToEnd.{tagAt}
 
 -- What build leaves in a table, whatever was in it: the first n entries are those of a function, and what lies past them stays.
@@ -36,12 +37,10 @@ pub record Built (file : List ℕ) (answer : BuildAnswer) : Type 0 where
       ≡ overwritten before (tagFile (numbersOf (windowCount file) (overlaps file) (planNumber file)) (windowCount file))
 
 pub record Demand2 : Type 0 where
-  -- The tree: with room in every table, build writes exactly the definitions' tables and tag file.
+  -- The tree: with room in each table (p to l entries) and in the tag file (t bytes), build writes exactly the definitions' tables.
   pub tree :
-      (file : List ℕ) → AcceptedPlan file → (parents components depths ranks lastRanks tags : ℕ) →
-      windowCount file ≤ parents → windowCount file ≤ components → windowCount file ≤ depths →
-      windowCount file ≤ ranks → windowCount file ≤ lastRanks → tagLength * windowCount file ≤ tags →
-      Built file (buildAnswerOf file parents components depths ranks lastRanks tags)
+      (file : List ℕ) → AcceptedPlan file → (p c d r l t : ℕ) → windowCount file ≤ p → windowCount file ≤ c → windowCount file ≤ d →
+      windowCount file ≤ r → windowCount file ≤ l → tagLength * windowCount file ≤ t → Built file (buildAnswerOf file p c d r l t)
   -- The tags: the tag of the window at v reads as its five numbers.
   pub tags :
       (file : List ℕ) → AcceptedPlan file → (v : ℕ) → v < windowCount file →

@@ -24,6 +24,9 @@ unfolding parentIn
 held-parents forest n parents held v h = omega (arith, held .at v h, forest .parent-le v)
 
 -- Where every table has room for as many, all the entries asked for are gone through.
+pub covered-one : (n first : ℕ) → n ≤ greatestCount → n ≤ first → min (min n greatestCount) first ≡ n
+covered-one n first few a = omega arith
+
 pub covered-all : (n first second : ℕ) → n ≤ greatestCount → n ≤ first → n ≤ second → covered n first second ≡ n
 covered-all n first second few a b = omega arith
 

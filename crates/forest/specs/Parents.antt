@@ -14,6 +14,6 @@ parentIn parents v = min (getD parents v 0) v
 abbrev pub covered : (entries first second : ℕ) → ℕ
 covered entries first second = min (min (min entries greatestCount) first) second
 
--- The entry at the place that the k-th index names; 0 past the end.
-abbrev pub lookedUp : (from indices : List ℕ) → ℕ → ℕ
-lookedUp from indices k = getD from (getD indices k 0) 0
+-- The entry at the place that the k-th entry names; 0 past the end.
+abbrev pub lookedUp : (from places : List ℕ) → ℕ → ℕ
+lookedUp from places k = getD from (getD places k 0) 0

@@ -1,7 +1,7 @@
 // Components and depths, in one pass from the front: a parent stands before its window.
+use crate::parents::entries_covered;
 use crate::parents::parent_at;
 use crate::parents::smaller;
-use plan::GREATEST_COUNT;
 ghost use mathlib.Core.Path.{_≡_};
 ghost use Prim.Native.Nat.{min};
 ghost use lib.ListN.{length};
@@ -21,8 +21,8 @@ pub fn fill_levels(
     ensures { λ _. ⌜ now (components .exit) ≡ overwritten (now (components .entry)) (table (component (parentIn (now (parents .entry)))) (min (covered entries (length (now (parents .entry))) (length (now (components .entry)))) (length (now (depths .entry))))) ⌝ }
     ensures { λ _. ⌜ now (depths .exit) ≡ overwritten (now (depths .entry)) (table (depth (parentIn (now (parents .entry)))) (min (covered entries (length (now (parents .entry))) (length (now (components .entry)))) (length (now (depths .entry))))) ⌝ }
 {
-    let within = smaller(smaller(entries, GREATEST_COUNT), parents.len());
-    let end = smaller(smaller(within, components.len()), depths.len());
+    let within = entries_covered(entries, parents.len(), components.len());
+    let end = smaller(within, depths.len());
     let mut roots = 0;
     let mut position = 0;
     while position < end {

@@ -2,9 +2,11 @@
 use crate::parents::smaller;
 use plan::GREATEST_COUNT;
 ghost use mathlib.Core.Path.{_≡_};
+ghost use Prim.Native.Nat.{min};
 ghost use lib.ListN.{length, getD};
 ghost use Rattle.sequences.specs.Table.{table, overwritten};
-ghost use Rattle.forest.specs.Parents.{covered, lookedUp};
+ghost use Rattle.plan.specs.Validation.{greatestCount};
+ghost use Rattle.forest.specs.Parents.{lookedUp};
 
 // The entry at a place; 0 past the end.
 fn entry_at(from: &[u16], at: usize) -> u16
@@ -13,16 +15,14 @@ fn entry_at(from: &[u16], at: usize) -> u16
     if at < from.len() { from[at] } else { 0 }
 }
 
-pub fn look_up(indices: &[u16], entries: usize, from: &[u16], out: &mut [u16])
-    ensures { λ _. ⌜ now (out .exit) ≡ overwritten (now (out .entry)) (table (lookedUp (now (from .entry)) (now (indices .entry))) (covered entries (length (now (indices .entry))) (length (now (out .entry))))) ⌝ }
+// Each place gives way to the entry that it names.
+pub fn look_up(from: &[u16], entries: usize, places: &mut [u16])
+    ensures { λ _. ⌜ now (places .exit) ≡ overwritten (now (places .entry)) (table (lookedUp (now (from .entry)) (now (places .entry))) (min (min entries greatestCount) (length (now (places .entry))))) ⌝ }
 {
-    let end = smaller(
-        smaller(smaller(entries, GREATEST_COUNT), indices.len()),
-        out.len(),
-    );
+    let end = smaller(smaller(entries, GREATEST_COUNT), places.len());
     let mut position = 0;
     while position < end {
-        out[position] = entry_at(from, indices[position] as usize);
+        places[position] = entry_at(from, places[position] as usize);
         position += 1;
     }
 }

@@ -1,8 +1,9 @@
 // The parent of a position by its entry in the table, and how far a pass goes.
+use plan::GREATEST_COUNT;
 ghost use mathlib.Core.Path.{_≡_};
 ghost use Prim.Native.Nat.{_≤_, _<_, min};
 ghost use lib.ListN.{length};
-ghost use Rattle.forest.specs.Parents.{parentIn};
+ghost use Rattle.forest.specs.Parents.{parentIn, covered};
 
 // The entry where it stands before its position; an entry that does not is read as that of a root.
 pub(crate) fn parent_at(parents: &[u16], position: usize) -> usize
@@ -17,4 +18,11 @@ pub(crate) fn smaller(first: usize, second: usize) -> usize
     ensures { λ r. ⌜ r ≡ min first second ⌝ }
 {
     if first < second { first } else { second }
+}
+
+// How many entries a pass over two tables goes through.
+pub(crate) fn entries_covered(entries: usize, first: usize, second: usize) -> usize
+    ensures { λ r. ⌜ r ≡ covered entries first second ⌝ }
+{
+    smaller(smaller(smaller(entries, GREATEST_COUNT), first), second)
 }

@@ -1,7 +1,7 @@
 // Ranks, in one pass from the front: a window's list begins where its parent's does, behind its earlier siblings' lists, and the
 // window comes last in it.
+use crate::parents::entries_covered;
 use crate::parents::parent_at;
-use crate::parents::smaller;
 use crate::sizes::add_sizes;
 use plan::GREATEST_COUNT;
 ghost use mathlib.Core.Path.{_≡_};
@@ -41,10 +41,7 @@ fn assign_ranks(parents: &[u16], entries: usize, sizes: &[u16], next: &mut [u16]
 pub fn fill_ranks(parents: &[u16], entries: usize, ranks: &mut [u16])
     ensures { λ _. ⌜ now (ranks .exit) ≡ overwritten (now (ranks .entry)) (table (rank (covered entries (length (now (parents .entry))) (length (now (ranks .entry)))) (parentIn (now (parents .entry)))) (covered entries (length (now (parents .entry))) (length (now (ranks .entry))))) ⌝ }
 {
-    let end = smaller(
-        smaller(smaller(entries, GREATEST_COUNT), parents.len()),
-        ranks.len(),
-    );
+    let end = entries_covered(entries, parents.len(), ranks.len());
     let mut sizes = [1; GREATEST_COUNT];
     let mut next = [0; GREATEST_COUNT];
     add_sizes(parents, end, &mut sizes);

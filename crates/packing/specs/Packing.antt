@@ -7,8 +7,8 @@ use Prim.Native.Nat.{ℕ, _+_, _*_}
 use Rattle.refusals.specs.declared.Refusal.{Refusal}
 use Rattle.plan.specs.declared.questions.Validation.{Validation}
 use Rattle.plan.specs.declared.questions.Validation.the-variants as validation
-use Rattle.tree.specs.declared.answers.BuildAnswer.{BuildAnswer}
-use Rattle.tree.specs.declared.answers.BuildAnswer.the-variants as build
+use Rattle.numbering.specs.declared.answers.BuildAnswer.{BuildAnswer}
+use Rattle.numbering.specs.declared.answers.BuildAnswer.the-variants as build
 use Rattle.reaching.specs.declared.ReachAnswer.{ReachAnswer}
 use Rattle.reaching.specs.declared.ReachAnswer.the-variants as reach
 use Rattle.path.specs.declared.answers.ChainAnswer.{ChainAnswer}

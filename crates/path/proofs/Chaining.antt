@@ -12,8 +12,7 @@ use Rattle.refusals.proofs.Question.{asked-refused, asked-passed}
 use Rattle.plan.specs.declared.questions.Validation.the-variants as Validation
 use Rattle.plan.specs.Validation.{validateAnswerOf}
 use Rattle.plan.specs.AcceptedWindows.{AcceptedWindows}
-use Rattle.plan.proofs.Accepted.{accepted-validated}
-use Rattle.plan.proofs.Calls.{plan-first}
+use Rattle.plan.proofs.Calls.{plan-first, plan-passed}
 use Rattle.minutes.specs.Tables.{parentOf}
 use Rattle.minutes.proofs.SingleTabled.{Tabled}
 use Rattle.path.specs.declared.answers.ChainAnswer.{ChainAnswer}
@@ -43,14 +42,14 @@ module _ (file : List ℕ) (first second room : ℕ) where
     chain-past refusal f =
         asked-refused (positionQuestions first second windows) (roomQuestion (length (chainBetween file first second)) room ∷ []) ChainAnswer.Refused
         (chainFound (chainBetween file first second)) answer e refusal f
-        ∙ sym (plan-first file _ ChainAnswer.Refused _ ∙ rw (accepted-validated file (p .accepted), ← p .counted))
+        ∙ sym (plan-passed file _ ChainAnswer.Refused _ (p .accepted) ∙ rw (← p .counted))
 
     -- Of two positions of windows, what is left is the chain and its room.
     chain-answers : answer ≡ asked.Passed → chainRest (chainBetween file first second) room ≡ chainAnswerOf file first second room
     unfolding chainAnswerOf chainQuestions
     chain-answers f =
         asked-passed (positionQuestions first second windows) _ ChainAnswer.Refused _ answer e f
-        ∙ sym (plan-first file _ ChainAnswer.Refused _ ∙ rw (accepted-validated file (p .accepted), ← p .counted))
+        ∙ sym (plan-passed file _ ChainAnswer.Refused _ (p .accepted) ∙ rw (← p .counted))
 
     module _ (f : answer ≡ asked.Passed) (found : ChainAnswer) (before after : List ℕ) where
       pub chain-asked : found ≡ chainRest (chainBetween file first second) room → after ≡ afterChain found (chainBetween file first second) before →

@@ -18,7 +18,8 @@ use Rattle.plan.specs.declared.questions.Validation.the-variants as Validation
 use Rattle.plan.specs.File.{windowCount}
 use Rattle.plan.specs.Overlap.{overlaps}
 use Rattle.plan.specs.Validation.{validateAnswerOf}
-use Rattle.plan.proofs.Calls.{plan-first, accepted-numbers}
+use Rattle.plan.specs.AcceptedWindows.{AcceptedWindows}
+use Rattle.plan.proofs.Calls.{plan-refused, plan-passed}
 use Rattle.path.specs.declared.answers.NeighboursAnswer.the-variants.{Neighbours, Refused}
 use Rattle.path.specs.Neighbours.{neighboursOf, neighboursQuestions, neighboursAnswerOf}
 
@@ -115,27 +116,24 @@ module _ (file : List ℕ) (windows at : ℕ) (named : windows ≡ windowCount f
   neighbours-few = rw (← listing-neighbours) (passing-few (overlaps file at) 0 windows)
 
 -- The answers.
-module _ (file : List ℕ) (at room : ℕ) (answer : Validation) (validated : answer ≡ validateAnswerOf file) where
-  pub neighbours-refused : (refusal : Refusal) → answer ≡ Validation.Refused refusal → Refused refusal ≡ neighboursAnswerOf file at room
+module _ (file : List ℕ) (at room : ℕ) where
+  pub neighbours-refused : (answer : Validation) → answer ≡ validateAnswerOf file → (refusal : Refusal) → answer ≡ Validation.Refused refusal →
+      Refused refusal ≡ neighboursAnswerOf file at room
   unfolding neighboursAnswerOf neighboursQuestions
-  neighbours-refused refusal e = sym (plan-first file _ Refused _ ∙ rw (← validated, e))
+  neighbours-refused = plan-refused file _ Refused _
 
-  module _ (plan windows : ℕ) (e : answer ≡ Validation.Accepted plan windows) where
+  module _ {windows : ℕ} (p : AcceptedWindows file windows) where
     pub neighbours-past : windows ≤ at → Refused (refusalBy 7) ≡ neighboursAnswerOf file at room
     unfolding neighboursAnswerOf neighboursQuestions positionQuestion question firstNo
-    neighbours-past past =
-        let named = accepted-numbers file plan windows (sym e ∙ validated) .1 in
-        sym (plan-first file _ Refused _ ∙ rw (← validated, e, ← named, le-ltb at windows past))
+    neighbours-past past = sym (plan-passed file _ Refused _ (p .accepted) ∙ rw (← p .counted, le-ltb at windows past))
 
     module _ (found : ℕ) (within : at < windows) (counted : found ≡ length (neighboursOf file at)) where
       pub neighbours-short : room < found → Refused (refusalBy 8) ≡ neighboursAnswerOf file at room
       unfolding neighboursAnswerOf neighboursQuestions positionQuestion roomQuestion question firstNo
       neighbours-short short =
-          let named = accepted-numbers file plan windows (sym e ∙ validated) .1 in
-          sym (plan-first file _ Refused _ ∙ rw (← validated, e, ← named, ← counted, lt-ltb at windows within, lt-leb found room short))
+          sym (plan-passed file _ Refused _ (p .accepted) ∙ rw (← p .counted, ← counted, lt-ltb at windows within, lt-leb found room short))
 
       pub neighbours-listed : found ≤ room → Neighbours found ≡ neighboursAnswerOf file at room
       unfolding neighboursAnswerOf neighboursQuestions positionQuestion roomQuestion question firstNo
       neighbours-listed fits =
-          let named = accepted-numbers file plan windows (sym e ∙ validated) .1 in
-          sym (plan-first file _ Refused _ ∙ rw (← validated, e, ← named, ← counted, lt-ltb at windows within, le-leb found room fits))
+          sym (plan-passed file _ Refused _ (p .accepted) ∙ rw (← p .counted, ← counted, lt-ltb at windows within, le-leb found room fits))

@@ -39,22 +39,40 @@ fn write_between(
     ChainAnswer::Chain { entries }
 }
 
+// The same between two positions, named in either order, which may be past the windows.
+fn chain_among(
+    file: &[u8],
+    windows: usize,
+    parents: &[u16],
+    first: usize,
+    second: usize,
+    out: &mut [u16],
+) -> ChainAnswer
+    requires { ⌜ Parented (now file) (now parents) ⌝ }
+    requires { ⌜ windows ≡ windowCount (now file) ⌝ }
+    ensures { λ r. ⌜ r ≡ chainAnswerOf (now (file .entry)) first second (length (now (out .entry))) ⌝ }
+    ensures { λ r. ⌜ now (out .exit) ≡ afterChain r (chainBetween (now (file .entry)) first second) (now (out .entry)) ⌝ }
+{
+    let asked = refusals::ask_positions(first, second, windows);
+    if let Asked::Refused(refusal) = asked {
+        return ChainAnswer::Refused(refusal);
+    }
+    if first < second {
+        return write_between(file, parents, first, second, out);
+    }
+    write_between(file, parents, second, first, out)
+}
+
 // The shortest chain between two windows that has the earliest window at each step, from the later to the earlier.
 pub fn chain(file: &[u8], first: usize, second: usize, out: &mut [u16]) -> ChainAnswer
     ensures { λ r. ⌜ r ≡ chainAnswerOf (now (file .entry)) first second (length (now (out .entry))) ⌝ }
     ensures { λ r. ⌜ now (out .exit) ≡ afterChain r (chainBetween (now (file .entry)) first second) (now (out .entry)) ⌝ }
 {
     let mut parents = [0; GREATEST_COUNT];
-    let windows = match minutes::parent_table(file, &mut parents) {
-        TableAnswer::Filled { windows } => windows as usize,
-        TableAnswer::Refused(refusal) => return ChainAnswer::Refused(refusal),
-    };
-    let asked = refusals::ask_positions(first, second, windows);
-    if let Asked::Refused(refusal) = asked {
-        return ChainAnswer::Refused(refusal);
+    match minutes::parent_table(file, &mut parents) {
+        TableAnswer::Filled { windows } => {
+            chain_among(file, windows as usize, &parents, first, second, out)
+        }
+        TableAnswer::Refused(refusal) => ChainAnswer::Refused(refusal),
     }
-    if first < second {
-        return write_between(file, &parents, first, second, out);
-    }
-    write_between(file, &parents, second, first, out)
 }

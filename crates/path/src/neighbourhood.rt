@@ -7,9 +7,7 @@ use refusals::Refusal;
 ghost use mathlib.Core.Path.{_≡_};
 ghost use Prim.Native.Nat.{_≤_, _<_};
 ghost use lib.ListN.{length};
-ghost use Rattle.sequences.specs.Search.{count};
 ghost use Rattle.sequences.specs.Table.{overwritten};
-ghost use Rattle.plan.specs.Overlap.{overlaps};
 ghost use Rattle.plan.specs.AcceptedWindows.{AcceptedWindows};
 ghost use Rattle.path.specs.Neighbours.{neighboursOf, neighboursAnswerOf, afterNeighbours};
 
@@ -47,23 +45,33 @@ fn write_neighbours(file: &[u8], windows: usize, at: usize, out: &mut [u16])
     }
 }
 
+// The same for a position, which may be past the windows.
+fn neighbours_among(file: &[u8], windows: usize, at: usize, out: &mut [u16]) -> NeighboursAnswer
+    requires { ⌜ AcceptedWindows (now file) windows ⌝ }
+    ensures { λ r. ⌜ r ≡ neighboursAnswerOf (now (file .entry)) at (length (now (out .entry))) ⌝ }
+    ensures { λ r. ⌜ now (out .exit) ≡ afterNeighbours r (neighboursOf (now (file .entry)) at) (now (out .entry)) ⌝ }
+{
+    if windows <= at {
+        return NeighboursAnswer::Refused(Refusal::by(7));
+    }
+    let found = count_neighbours(file, windows, at);
+    if out.len() < found {
+        return NeighboursAnswer::Refused(Refusal::by(8));
+    }
+    write_neighbours(file, windows, at, out);
+    let listed = found as u16;
+    NeighboursAnswer::Neighbours(listed)
+}
+
 // The positions that overlap one window, rising, without itself.
 pub fn neighbours(file: &[u8], at: usize, out: &mut [u16]) -> NeighboursAnswer
     ensures { λ r. ⌜ r ≡ neighboursAnswerOf (now (file .entry)) at (length (now (out .entry))) ⌝ }
     ensures { λ r. ⌜ now (out .exit) ≡ afterNeighbours r (neighboursOf (now (file .entry)) at) (now (out .entry)) ⌝ }
 {
-    let windows = match plan::validate(file) {
-        Validation::Accepted { plan: _, windows } => windows,
-        Validation::Refused(refusal) => return NeighboursAnswer::Refused(refusal),
-    };
-    if windows as usize <= at {
-        return NeighboursAnswer::Refused(Refusal::by(7));
+    match plan::validate(file) {
+        Validation::Accepted { plan: _, windows } => {
+            neighbours_among(file, windows as usize, at, out)
+        }
+        Validation::Refused(refusal) => NeighboursAnswer::Refused(refusal),
     }
-    let found = count_neighbours(file, windows as usize, at);
-    if out.len() < found {
-        return NeighboursAnswer::Refused(Refusal::by(8));
-    }
-    write_neighbours(file, windows as usize, at, out);
-    let listed = found as u16;
-    NeighboursAnswer::Neighbours(listed)
 }

@@ -3,7 +3,7 @@
 use Prim.Native.Nat.{ℕ, _*_}
 use mathlib.Core.List.{List}
 use lib.ListN.{length}
-use Rattle.tree.specs.declared.answers.BuildAnswer.{BuildAnswer}
+use Rattle.numbering.specs.declared.answers.BuildAnswer.{BuildAnswer}
 use Rattle.tree.specs.Build.{buildAnswerOf}
 use Rattle.tag_bytes.specs.declared.tag_file.LookupAnswer.{LookupAnswer}
 use Rattle.tag_bytes.specs.declared.tag_file.LookupAnswer.the-variants.{Found, Refused}

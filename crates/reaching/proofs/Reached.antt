@@ -28,7 +28,7 @@ use Rattle.plan.proofs.Calls.{plan-refused, one-more-no, one-more-yes}
 use Rattle.plan.proofs.Counted.{windows-few, windows-order}
 use Rattle.plan.proofs.Accepted.{accepted-validated}
 use Rattle.reaching.specs.declared.ReachAnswer.the-variants.{Reach, Refused}
-use Rattle.tree.specs.Tables.{componentOf, depthOf}
+use Rattle.numbering.specs.Tables.{componentOf, depthOf}
 use Rattle.reaching.specs.Reach.{reachQuestions, reachAnswerOf}
 use Rattle.reaching.specs.Passes.{RunEnd}
 

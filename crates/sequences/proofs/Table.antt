@@ -5,7 +5,7 @@ use mathlib.Core.Path.{_≡_, refl, sym, ap, _∙_}
 use mathlib.Core.{Logic.⊎-elim, List.List, List.[], List._∷_, List._++_, List.append-assoc}
 use native.Mathlib.{Omega.arith, Numerals.add-one}
 use lib.ListN.{length, getD, take, drop, set, length-append, length-drop, length-set, List·getD-append}
-use lib.Seq.{set-at, drop-cons, take-at, getD-at, getD-drop, getD-append-add}
+use lib.Seq.{set-at, drop-cons, take-at, drop-at, getD-at, getD-drop, getD-append-add}
 use Rattle.sequences.specs.Table.{table, overwritten, Holds}
 use Rattle.sequences.proofs.Tests.{lt-or-ge}
 
@@ -59,6 +59,11 @@ module _ {A : Type 0} where
       (ap (λ i. getD (table f n ++ drop n l) i d) there ∙ getD-append-add (table f n) (drop n l) (k - n) d ∙ getD-drop n l (k - n) d
       ∙ ap (λ i. getD l i d) here)
 
+  -- Written again by as many entries, nothing of the first writing is left.
+  pub overwritten-again : (l first second : List A) → length first ≡ length second → overwritten (overwritten l first) second ≡ overwritten l second
+  unfolding overwritten
+  overwritten-again l first second e = rw (drop-at first (drop (length first) l) (length second) e, e)
+
 -- A table of n entries that a pass is writing from the front, before the entry v: the entries before it are f's, the rest is
 -- as it was.
 pub record Filling {A : Type 0} (f : ℕ → A) (n : ℕ) (before now : List A) (v : ℕ) : Type 0 where
@@ -80,6 +85,10 @@ module _ {A : Type 0} (f : ℕ → A) (n : ℕ) (before now : List A) where
   pub filling-at : (v k : ℕ) (d : A) → k < v → Filling f n before now v → getD now k d ≡ f k
   filling-at v k d h s =
       rw (s .filled) (List·getD-append (table f v) (drop v before) d k (omega (arith, length-table f v)) ∙ getD-table f v k d h)
+
+  -- Those that are still to be written.
+  pub filling-past : (v k : ℕ) (d : A) → v ≤ k → Filling f n before now v → getD now k d ≡ getD before k d
+  filling-past v k d h s = rw (s .filled, ← overwritten-table f v before) (overwritten-past f v before k d h)
 
   -- The pass is done.
   pub filling-end : (v : ℕ) → n ≤ v → Filling f n before now v → now ≡ overwritten before (table f n)

@@ -1,33 +1,20 @@
--- Paper 01's plan 12, from its bytes: its tables, the numbers of its tags and its answers come out of the definitions by computation,
--- and a refusal leaves a table as it was.
+-- Paper 01's plan 12, from its bytes: what build and the tag file alone answer comes out of the definitions by computation, and a
+-- refusal leaves a tag file as it was.
 -- Assumes nothing.
 use mathlib.Core.{Path._≡_, Path.refl, List.[], List._∷_}
-use Rattle.sequences.specs.Table.{table, overwritten}
-use Rattle.refusals.specs.Question.{refusalBy, roomQuestion}
-use Rattle.plan.proofs.Plan12.{file, meaning}
+use Rattle.refusals.specs.Question.{refusalBy}
+use Rattle.plan.proofs.Plan12.{file}
 use Rattle.tag_bytes.specs.Fields.{tagBytes}
 use Rattle.tag_bytes.specs.TagFile.{tagFile}
-use Rattle.tree.specs.declared.answers.BuildAnswer.the-variants.{Built, Refused}
-use Rattle.tree.specs.Tables.{componentOf, depthOf, rankOf, lastRankOf, componentCount, numbersAt}
-use Rattle.tree.specs.Build.{tablesFit, buildQuestions, buildAnswerOf, tagsQuestions, tagsAnswerOf, afterBuild, afterTags}
+use Rattle.numbering.specs.declared.answers.BuildAnswer.the-variants.{Built, Refused}
+use Rattle.numbering.specs.Tables.{numbersAt}
+use Rattle.numbering.proofs.Plan12.{numbered}
+use Rattle.tree.specs.Build.{tablesFit, buildQuestions, buildAnswerOf, tagsQuestions, tagsAnswerOf, afterTags}
 
 -- What a computation on the file opens.
 unfoldable answers : Unit {0}
-unfolding meaning roomQuestion overwritten tagBytes tagFile componentOf depthOf rankOf lastRankOf componentCount numbersAt tablesFit
-    buildQuestions buildAnswerOf tagsQuestions tagsAnswerOf afterBuild afterTags
+unfolding numbered tagBytes tagFile tablesFit buildQuestions buildAnswerOf tagsQuestions tagsAnswerOf afterTags
 answers = tt
-
-pub plan-12-tables : table (componentOf file) 7 ∷ table (depthOf file) 7 ∷ table (rankOf file) 7 ∷ table (lastRankOf file) 7 ∷ []
-    ≡ (0 ∷ 0 ∷ 0 ∷ 0 ∷ 0 ∷ 0 ∷ 1 ∷ []) ∷ (0 ∷ 1 ∷ 1 ∷ 1 ∷ 2 ∷ 3 ∷ 0 ∷ []) ∷ (5 ∷ 0 ∷ 3 ∷ 4 ∷ 2 ∷ 1 ∷ 0 ∷ [])
-    ∷ (4 ∷ 3 ∷ 2 ∷ 4 ∷ 1 ∷ 1 ∷ 0 ∷ []) ∷ []
-unfolding answers
-plan-12-tables = refl
-
--- The first tag and the last.
-pub plan-12-tags : numbersAt file 0 ∷ numbersAt file 6 ∷ []
-    ≡ record { plan = 12; component = 0; depth = 0; rank = 5; last = 4 } ∷ record { plan = 12; component = 1; depth = 0; rank = 0; last = 0 } ∷ []
-unfolding answers
-plan-12-tags = refl
 
 -- Tables that just hold the windows, and one entry or one byte less.
 pub plan-12-built : buildAnswerOf file 7 7 7 7 7 70 ∷ buildAnswerOf file 7 7 6 7 7 70 ∷ buildAnswerOf file 7 7 7 7 7 69 ∷ tagsAnswerOf file 70 ∷ tagsAnswerOf
@@ -35,8 +22,7 @@ pub plan-12-built : buildAnswerOf file 7 7 7 7 7 70 ∷ buildAnswerOf file 7 7 6
 unfolding answers
 plan-12-built = refl
 
--- What lies past the written entries stays, and a refusal alters nothing.
-pub plan-12-after : afterBuild (Built 12 2 1) (rankOf file) (9 ∷ 9 ∷ 9 ∷ []) ∷ afterBuild (Refused (refusalBy 8)) (rankOf file) (9 ∷ []) ∷ afterTags
-    (Refused (refusalBy 8)) (numbersAt file) (9 ∷ []) ∷ [] ≡ (5 ∷ 0 ∷ 9 ∷ []) ∷ (9 ∷ []) ∷ (9 ∷ []) ∷ []
+-- A refusal alters nothing.
+pub plan-12-after : afterTags (Refused (refusalBy 8)) (numbersAt file) (9 ∷ []) ≡ 9 ∷ []
 unfolding answers
 plan-12-after = refl

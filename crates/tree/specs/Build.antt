@@ -1,20 +1,20 @@
 -- Paper 01, "Calls on a plan": "Build writes five tables of two-byte numbers (parent, component, depth, rank, rank of the last)
 -- and the tag file."
--- Vocabulary: tablesFit, buildQuestions, buildAnswerOf, tagsQuestions, tagsAnswerOf, afterBuild, afterTags.
+-- Vocabulary: tablesFit, buildQuestions, buildAnswerOf, tagsQuestions, tagsAnswerOf, afterTags.
 use Prim.Native.Nat.{ℕ, _*_}
 use mathlib.Core.Bool.{Bool, _&&_}
 use mathlib.Core.List.{List, [], _∷_, _++_}
 use lib.Dec.{leb}
-use Rattle.sequences.specs.Table.{table, overwritten}
+use Rattle.sequences.specs.Table.{overwritten}
 use Rattle.interval_graph.specs.Numbers.{Numbers}
 use Rattle.refusals.specs.Question.{Question, question, roomQuestion, firstNo}
 use Rattle.plan.specs.File.{planNumber, windowCount}
 use Rattle.plan.specs.Validation.{planQuestions}
 use Rattle.tag_bytes.specs.Fields.{tagLength}
 use Rattle.tag_bytes.specs.TagFile.{tagFile}
-use Rattle.tree.specs.declared.answers.BuildAnswer.{BuildAnswer}
-use Rattle.tree.specs.declared.answers.BuildAnswer.the-variants.{Built, Refused}
-use Rattle.tree.specs.Tables.{componentCount}
+use Rattle.numbering.specs.declared.answers.BuildAnswer.{BuildAnswer}
+use Rattle.numbering.specs.declared.answers.BuildAnswer.the-variants.{Built, Refused}
+use Rattle.numbering.specs.Tables.{componentCount}
 
 -- "8. Does each table hold what is to be written (n entries; 10 × n bytes …)?" by how many entries each of the five tables holds
 -- and how many bytes the tag file.
@@ -43,12 +43,7 @@ module _ (file : List ℕ) (room : ℕ) where
   unfoldable pub tagsAnswerOf : BuildAnswer
   tagsAnswerOf = firstNo tagsQuestions Refused (Built (planNumber file) (windowCount file) (componentCount file))
 
--- A table afterwards: "what lies past the written entries stays", and a refusal alters nothing.
-unfoldable pub afterBuild : BuildAnswer → (ℕ → ℕ) → List ℕ → List ℕ
-afterBuild (Built plan windows components) f before = overwritten before (table f windows)
-afterBuild (Refused refusal) f before = before
-
--- The tag file afterwards.
+-- The tag file afterwards; each table is `afterBuild`.
 unfoldable pub afterTags : BuildAnswer → (ℕ → Numbers) → List ℕ → List ℕ
 afterTags (Built plan windows components) f before = overwritten before (tagFile f windows)
 afterTags (Refused refusal) f before = before

@@ -1,36 +1,14 @@
-// Build: validation and room with the parents and lasts, and then the passes over them, one after the other.
-use crate::answers::BuildAnswer;
+// Build: the five tables, and the tag file from them.
 use crate::tagging::write_tags;
-use minutes::TableAnswer;
+use numbering::BuildAnswer;
 use plan::GREATEST_COUNT;
 use tag_bytes::Tag;
 ghost use mathlib.Core.Path.{_≡_};
-ghost use Prim.Native.Nat.{_/_, min};
 ghost use lib.ListN.{length};
-ghost use Rattle.tag_bytes.specs.Fields.{tagLength};
 ghost use Rattle.minutes.specs.Tables.{parentOf};
-ghost use Rattle.tree.specs.Tables.{componentOf, depthOf, rankOf, lastRankOf, numbersAt};
-ghost use Rattle.tree.specs.Build.{buildAnswerOf, tagsAnswerOf, afterBuild, afterTags};
-
-fn smaller(first: usize, second: usize) -> usize
-    ensures { λ r. ⌜ r ≡ min first second ⌝ }
-{
-    if first < second { first } else { second }
-}
-
-// How many windows there is room for in each of four tables and, by its bytes, in the tag file.
-fn least_room(
-    components: usize,
-    depths: usize,
-    ranks: usize,
-    last_ranks: usize,
-    tags: usize,
-) -> usize
-    ensures { λ r. ⌜ r ≡ min (min (min (min components depths) ranks) «last_ranks») (tags / tagLength) ⌝ }
-{
-    let first = smaller(smaller(components, depths), ranks);
-    smaller(smaller(first, last_ranks), tags / Tag::LENGTH)
-}
+ghost use Rattle.numbering.specs.Tables.{componentOf, depthOf, rankOf, lastRankOf, numbersAt};
+ghost use Rattle.numbering.specs.Numbering.{afterBuild};
+ghost use Rattle.tree.specs.Build.{buildAnswerOf, tagsAnswerOf, afterTags};
 
 // The five tables and the tag file of a plan.
 pub fn build(
@@ -50,29 +28,25 @@ pub fn build(
     ensures { λ r. ⌜ now («last_ranks» .exit) ≡ afterBuild r (lastRankOf (now (file .entry))) (now («last_ranks» .entry)) ⌝ }
     ensures { λ r. ⌜ now (tags .exit) ≡ afterTags r (numbersAt (now (file .entry))) (now (tags .entry)) ⌝ }
 {
-    let mut lasts = [0; GREATEST_COUNT];
-    let room = least_room(
-        components.len(),
-        depths.len(),
-        ranks.len(),
-        last_ranks.len(),
-        tags.len(),
+    let room = tags.len() / Tag::LENGTH;
+    let answer = numbering::fill_numbers(
+        file,
+        room,
+        parents,
+        components,
+        depths,
+        ranks,
+        last_ranks,
     );
-    let windows = match minutes::fill_tables(file, room, parents, &mut lasts) {
-        TableAnswer::Filled { windows } => windows,
-        TableAnswer::Refused(refusal) => return BuildAnswer::Refused(refusal),
-    };
-    let n = windows as usize;
-    let components_found = forest::fill_levels(parents, n, components, depths);
-    forest::fill_ranks(parents, n, ranks);
-    forest::look_up(&lasts, n, ranks, last_ranks);
-    let plan = wire::read_u16(file, 0);
-    write_tags(n, plan, components, depths, ranks, last_ranks, tags);
-    BuildAnswer::Built {
+    if let BuildAnswer::Built {
         plan,
         windows,
-        components: components_found,
+        components: _,
+    } = answer {
+        let n = windows as usize;
+        write_tags(n, plan, components, depths, ranks, last_ranks, tags);
     }
+    answer
 }
 
 // The tag file of a plan alone, for callers who do not want the tables.

@@ -8,7 +8,7 @@ use Rattle.plan.specs.Validation.{greatestCount}
 use Rattle.plan.proofs.Counted.{windows-few}
 use Rattle.forest.proofs.Parented.{covered-three}
 use Rattle.minutes.proofs.SingleTabled.{tabled, table-refuses}
-use Rattle.tree.proofs.Built.{components-filled, depths-filled}
+use Rattle.numbering.proofs.Filled.{components-filled, depths-filled}
 use Rattle.reaching.proofs.Reached.{reach-refused, reach-beyond, reach-found, reach-depth, reach-fits}
 use borrow.Author.Needs.{needs}
 use Rattle.reaching.proofs.reach.Statement.{statement}
@@ -62,10 +62,8 @@ run-end-requires c κs = let t = tabled _ _ _ _ _ _
     (c .before .before .before .before .before .before .before .before .before .windows .given .1)
     (c .before .before .before .before .before .before .before .before .before .before .before .before .parent-table .ensures .1) in
     let few = windows-few (t .plan) in
-    let components = overwritten-holds _ _ _ _ few (components-filled (t .plan) (t .held) _ _ _ (c .before .before .before .fill-levels .ensures .1 .0)
-    (covered-three _ _ _ _ few (t .held .long) few few)) in
-    let depths = overwritten-holds _ _ _ _ few (depths-filled (t .plan) (t .held) _ _ _ (c .before .before .before .fill-levels .ensures .1 .1)
-    (covered-three _ _ _ _ few (t .held .long) few few)) in
+    let levels = rw (covered-three _ _ _ _ few (t .held .long) few few) at (c .before .before .before .fill-levels .ensures .1) in
+    let components = overwritten-holds _ _ _ _ few (components-filled (t .plan) (t .held) _ _ (levels .0)) in
     (components .long, c .before .before .before .before .before .before .before .if1 .left)
 
 mul-found : tie.Need-mul-found
@@ -93,10 +91,9 @@ add-found c = let t = tabled _ _ _ _ _ _ (c .before .before .before .before .bef
     .before .parent-table .ensures .0) (c .before .before .before .before .before .before .before .before .before .before .windows .given .1)
     (c .before .before .before .before .before .before .before .before .before .before .before .before .before .parent-table .ensures .1) in
     let few = windows-few (t .plan) in
-    let components = overwritten-holds _ _ _ _ few (components-filled (t .plan) (t .held) _ _ _
-    (c .before .before .before .before .fill-levels .ensures .1 .0) (covered-three _ _ _ _ few (t .held .long) few few)) in
-    let depths = overwritten-holds _ _ _ _ few (depths-filled (t .plan) (t .held) _ _ _ (c .before .before .before .before .fill-levels .ensures .1 .1)
-    (covered-three _ _ _ _ few (t .held .long) few few)) in
+    let levels = rw (covered-three _ _ _ _ few (t .held .long) few few) at (c .before .before .before .before .fill-levels .ensures .1) in
+    let components = overwritten-holds _ _ _ _ few (components-filled (t .plan) (t .held) _ _ (levels .0)) in
+    let depths = overwritten-holds _ _ _ _ few (depths-filled (t .plan) (t .held) _ _ (levels .1)) in
     omega (arith, reach-fits (t .plan) components depths _ _ (c .run-end .ensures))
 
 returns-3 : tie.Need-returns-3
@@ -104,10 +101,9 @@ returns-3 c = let t = tabled _ _ _ _ _ _ (c .before .before .before .before .bef
     .before .parent-table .ensures .0) (c .before .before .before .before .before .before .before .before .before .before .windows .given .1)
     (c .before .before .before .before .before .before .before .before .before .before .before .before .before .parent-table .ensures .1) in
     let few = windows-few (t .plan) in
-    let components = overwritten-holds _ _ _ _ few (components-filled (t .plan) (t .held) _ _ _
-    (c .before .before .before .before .fill-levels .ensures .1 .0) (covered-three _ _ _ _ few (t .held .long) few few)) in
-    let depths = overwritten-holds _ _ _ _ few (depths-filled (t .plan) (t .held) _ _ _ (c .before .before .before .before .fill-levels .ensures .1 .1)
-    (covered-three _ _ _ _ few (t .held .long) few few)) in
+    let levels = rw (covered-three _ _ _ _ few (t .held .long) few few) at (c .before .before .before .before .fill-levels .ensures .1) in
+    let components = overwritten-holds _ _ _ _ few (components-filled (t .plan) (t .held) _ _ (levels .0)) in
+    let depths = overwritten-holds _ _ _ _ few (depths-filled (t .plan) (t .held) _ _ (levels .1)) in
     reach-found (t .plan) _ _ (c .before .before .before .before .before .before .before .before .if1 .left) (reach-depth (t .plan) components depths _ _
     (c .run-end .ensures))
 

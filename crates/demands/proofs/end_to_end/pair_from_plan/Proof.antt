@@ -10,8 +10,6 @@ use Rattle.demands.proofs.Running.{running-refused, running-windows, ru
 use borrow.Author.Needs.{needs}
 use Rattle.demands.proofs.end_to_end.pair_from_plan.Statement.{statement}
 use Rattle.demands.proofs.end_to_end.pair_from_plan.Tie as tie
-use Rattle.tag.proofs.pair_at.Reads as pair-at-reads
-use Rattle.tree.proofs.tag_file.Reads as tag-file-reads
 
 slice-aggregate-tag-file : tie.Need-slice-aggregate-tag-file
 slice-aggregate-tag-file c = search needs

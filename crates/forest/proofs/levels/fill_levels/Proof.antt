@@ -18,17 +18,11 @@ Inv-loop parents entries components₀ depths₀ within end roots₀ position₀
 abbrev μ-loop : tie.MeasureT-loop
 μ-loop parents entries components₀ depths₀ within end roots₀ position₀ components depths roots position = end - position
 
+entries-covered-requires : tie.Need-entries-covered-requires Inv-loop μ-loop
+entries-covered-requires c κs = search needs
+
 smaller-requires : tie.Need-smaller-requires Inv-loop μ-loop
 smaller-requires c κs = search needs
-
-smaller-requires-2 : tie.Need-smaller-requires-2 Inv-loop μ-loop
-smaller-requires-2 c κs = search needs
-
-smaller-requires-3 : tie.Need-smaller-requires-3 Inv-loop μ-loop
-smaller-requires-3 c κs = search needs
-
-smaller-requires-4 : tie.Need-smaller-requires-4 Inv-loop μ-loop
-smaller-requires-4 c κs = search needs
 
 loop-holds : tie.Need-loop-holds Inv-loop μ-loop
 loop-holds c = leveled-start (table-forest _) _ _ _
@@ -104,12 +98,7 @@ same-length-2 c = search needs
 returns : tie.Need-returns Inv-loop μ-loop
 returns c = let s = c .before .loop .inv in
     let done = c .loop-test .left in
-    rw (
-      ← c .before .before .before .before .before .smaller .ensures,
-      ← c .before .before .before .before .smaller2 .ensures,
-      ← c .before .before .before .smaller3 .ensures,
-      ← c .before .before .smaller4 .ensures,
-    ) (
+    rw (← c .before .before .before .entries-covered .ensures, ← c .before .before .smaller .ensures) (
       leveled-end (table-forest _) _ _ _ s done,
       (
         filling-end _ _ _ _ _ done (s .components-filling),
@@ -119,7 +108,7 @@ returns c = let s = c .before .loop .inv in
 
 pub fill-levels-spec : {M : Type 1} → statement M
 fill-levels-spec =
-    tie.close (tie.spec Inv-loop μ-loop smaller-requires smaller-requires-2 smaller-requires-3 smaller-requires-4 loop-holds
+    tie.close (tie.spec Inv-loop μ-loop entries-covered-requires smaller-requires loop-holds
     parent-at-requires mul-components slice-write-components mul-depths slice-write-depths add-roots mul-components-2 slice-read-components
     mul-components-3 slice-write-components-2 mul-depths-2 slice-read-depths add-depths mul-depths-3 slice-write-depths-2 add-position
     loop-less loop-again same-length same-length-2 returns)

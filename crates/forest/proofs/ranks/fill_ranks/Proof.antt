@@ -7,14 +7,8 @@ use borrow.Author.Needs.{needs}
 use Rattle.forest.proofs.ranks.fill_ranks.Statement.{statement}
 use Rattle.forest.proofs.ranks.fill_ranks.Tie as tie
 
-smaller-requires : tie.Need-smaller-requires
-smaller-requires c κs = search needs
-
-smaller-requires-2 : tie.Need-smaller-requires-2
-smaller-requires-2 c κs = search needs
-
-smaller-requires-3 : tie.Need-smaller-requires-3
-smaller-requires-3 c κs = search needs
+entries-covered-requires : tie.Need-entries-covered-requires
+entries-covered-requires c κs = search needs
 
 slice-aggregate-add-sizes : tie.Need-slice-aggregate-add-sizes
 slice-aggregate-add-sizes c = search needs
@@ -35,13 +29,10 @@ same-length : tie.Need-same-length
 same-length c = search needs
 
 returns : tie.Need-returns
-returns c = rw (
-  ← c .before .before .before .before .before .before .before .before .before .before .before .before .smaller .ensures,
-  ← c .before .before .before .before .before .before .before .before .before .before .before .smaller2 .ensures,
-  ← c .before .before .before .before .before .before .before .before .before .before .smaller3 .ensures,
-) (c .before .before .before .assign-ranks .ensures)
+returns c = rw (← c .before .before .before .before .before .before .before .before .before .before .entries-covered .ensures)
+    (c .before .before .before .assign-ranks .ensures)
 
 pub fill-ranks-spec : {M : Type 1} → statement M
 fill-ranks-spec =
-    tie.close (tie.spec smaller-requires smaller-requires-2 smaller-requires-3 slice-aggregate-add-sizes add-sizes-requires
+    tie.close (tie.spec entries-covered-requires slice-aggregate-add-sizes add-sizes-requires
     slice-aggregate-assign-ranks slice-aggregate-assign-ranks-2 assign-ranks-requires same-length returns)

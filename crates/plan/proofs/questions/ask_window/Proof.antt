@@ -5,7 +5,6 @@ use Rattle.plan.proofs.Validation.{ask-4, ask-5, ask-6, ask-none}
 use borrow.Author.Needs.{needs}
 use Rattle.plan.proofs.questions.ask_window.Statement.{statement}
 use Rattle.plan.proofs.questions.ask_window.Tie as tie
-use Rattle.refusals.proofs.Refusal.by.Reads as by-reads
 
 by-requires : tie.Need-by-requires
 by-requires c κs = search needs

@@ -6,7 +6,6 @@ use Rattle.plan.proofs.Written.{window-placed, window-unplaced}
 use borrow.Author.Needs.{needs}
 use Rattle.plan.proofs.windows.write_window.Statement.{statement}
 use Rattle.plan.proofs.windows.write_window.Tie as tie
-use Rattle.wire.proofs.write_u32.Reads as write-u32-reads
 
 returns : tie.Need-returns
 returns c = window-unplaced _ _ _ (omega arith)

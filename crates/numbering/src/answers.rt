@@ -1,4 +1,4 @@
-// What the calls of this crate answer.
+// What the calls that make the tables of a plan answer.
 use refusals::Refusal;
 
 // All tables and the tag file: the plan number, how many windows there are, and how many components.
