@@ -7,7 +7,7 @@ use native.Mathlib.Omega.{arith}
 use Rattle.sequences.specs.Table.{table, Holds}
 use Rattle.interval_graph.specs.Forest.{Forest}
 use Rattle.plan.specs.Validation.{greatestCount}
-use Rattle.forest.specs.Parents.{parentIn, covered}
+use Rattle.forest.specs.Parents.{parentIn, covered, lookedUp}
 
 pub table-forest : (parents : List ℕ) → Forest (parentIn parents)
 unfolding parentIn
@@ -17,6 +17,11 @@ table-forest parents = record { parent-le = λ v. omega arith }
 pub parents-read : table (parentIn (3 ∷ 0 ∷ 1 ∷ [])) 4 ≡ 0 ∷ 0 ∷ 1 ∷ 0 ∷ []
 unfolding table parentIn
 parents-read = refl
+
+-- A place past the table's end, too.
+pub places-read : table (lookedUp (7 ∷ 8 ∷ 9 ∷ []) (2 ∷ 0 ∷ 3 ∷ [])) 3 ≡ 9 ∷ 7 ∷ 0 ∷ []
+unfolding table
+places-read = refl
 
 -- A table that holds the parents of a forest gives that forest.
 pub held-parents : {parent : ℕ → ℕ} → Forest parent → (n : ℕ) (parents : List ℕ) → Holds parents parent n → (v : ℕ) → v < n → parentIn parents v ≡ parent v
