@@ -1,7 +1,7 @@
 // Components and depths, in one pass from the front: a parent stands before its window.
 use crate::parents::entries_covered;
 use crate::parents::parent_at;
-use crate::parents::smaller;
+use sequences::smaller;
 ghost use mathlib.Core.Path.{_≡_};
 ghost use Prim.Native.Nat.{min};
 ghost use lib.ListN.{length};

@@ -1,6 +1,6 @@
 // One table's entries at the places that another names.
-use crate::parents::smaller;
 use plan::GREATEST_COUNT;
+use sequences::smaller;
 ghost use mathlib.Core.Path.{_≡_};
 ghost use Prim.Native.Nat.{min};
 ghost use lib.ListN.{length, getD};

@@ -1,7 +1,8 @@
 // The parent of a position by its entry in the table, and how far a pass goes.
 use plan::GREATEST_COUNT;
+use sequences::smaller;
 ghost use mathlib.Core.Path.{_≡_};
-ghost use Prim.Native.Nat.{_≤_, _<_, min};
+ghost use Prim.Native.Nat.{_≤_, _<_};
 ghost use lib.ListN.{length};
 ghost use Rattle.forest.specs.Parents.{parentIn, covered};
 
@@ -12,12 +13,6 @@ pub(crate) fn parent_at(parents: &[u16], position: usize) -> usize
     ensures { λ r. ⌜ r ≤ position ⌝ }
 {
     smaller(parents[position] as usize, position)
-}
-
-pub(crate) fn smaller(first: usize, second: usize) -> usize
-    ensures { λ r. ⌜ r ≡ min first second ⌝ }
-{
-    if first < second { first } else { second }
 }
 
 // How many entries a pass over two tables goes through.

@@ -3,17 +3,12 @@ use crate::answers::TableAnswer;
 use crate::answers::table_room;
 use crate::lasts::fill_lasts;
 use crate::parents::find_parents;
+use sequences::smaller;
 ghost use mathlib.Core.Path.{_≡_};
 ghost use Prim.Native.Nat.{min};
 ghost use lib.ListN.{length};
 ghost use Rattle.minutes.specs.Tables.{parentOf, lastOf};
 ghost use Rattle.minutes.specs.SingleTable.{tableAnswerOf, afterTable};
-
-fn smaller(first: usize, second: usize) -> usize
-    ensures { λ r. ⌜ r ≡ min first second ⌝ }
-{
-    if first < second { first } else { second }
-}
 
 // Parents and lasts, where these two tables and the caller's others, of at least `room` entries, hold the windows.
 pub fn fill_tables(file: &[u8], room: usize, parents: &mut [u16], lasts: &mut [u16]) -> TableAnswer

@@ -1,18 +1,12 @@
 // Parents and lasts from the windows' minutes, and then the passes over them, one after the other.
 use crate::answers::BuildAnswer;
 use minutes::TableAnswer;
+use sequences::smaller;
 ghost use mathlib.Core.Path.{_≡_};
-ghost use Prim.Native.Nat.{min};
 ghost use lib.ListN.{length};
 ghost use Rattle.minutes.specs.Tables.{parentOf};
 ghost use Rattle.numbering.specs.Tables.{componentOf, depthOf, rankOf, lastRankOf};
 ghost use Rattle.numbering.specs.Numbering.{leastRoom, numbersAnswerOf, afterBuild};
-
-fn smaller(first: usize, second: usize) -> usize
-    ensures { λ r. ⌜ r ≡ min first second ⌝ }
-{
-    if first < second { first } else { second }
-}
 
 // The five tables, where they and what the caller has elsewhere, with room for so many windows, hold the plan's. The lasts stand in the
 // place of their ranks until these are known.
