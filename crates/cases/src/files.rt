@@ -1,53 +1,59 @@
-// Plan files and tags to try the calls on.
+// Plan files and tags from the numbers of a text, to try the calls on.
+use crate::lines::next_word;
+use crate::lines::number_at;
 use plan::GREATEST_COUNT;
 use plan::HEADER_LENGTH;
 use plan::WINDOW_LENGTH;
 use plan::Window;
 
-// Offset and length of each window of paper 01's plan 12.
-const PLAN_12: [u64; 14] = [0, 10, 2, 3, 4, 12, 9, 2, 12, 6, 17, 1, 18, 4];
-
-// The five numbers behind the first, of two bytes each, as a tag has them.
-pub(crate) fn put_numbers(bytes: &mut [u8], row: [u64; 7]) {
-    let mut at = 0;
-    while at < 5 {
-        wire::write_u16(bytes, at * 2, (row[at + 1] % 65536) as u16);
-        at += 1;
+// A tag's five numbers, which stand in the text from a place on.
+pub(crate) fn put_tag(tag: &mut [u8], text: &[u8], from: usize) {
+    let mut at = from;
+    let mut field = 0;
+    while field < 5 {
+        wire::write_u16(tag, field * 2, (number_at(text, at) % 65536) as u16);
+        at = next_word(text, at);
+        field += 1;
     }
 }
 
-// The window at a position: of the numbers, two for each window, or behind them a step of the staircase.
-fn window_of(numbers: &[u64], position: usize) -> Window {
-    if position < numbers.len() / 2 {
-        Window {
-            offset: (numbers[position * 2] % 4294967296) as u32,
-            length: (numbers[position * 2 + 1] % 4294967296) as u32,
-        }
-    } else {
-        Window {
-            offset: (position % 4294967296) as u32,
-            length: 2,
-        }
+// The window whose offset stands at a place, and its length behind it.
+fn window_at(text: &[u8], at: usize) -> Window {
+    Window {
+        offset: (number_at(text, at) % 4294967296) as u32,
+        length: (number_at(text, next_word(text, at)) % 4294967296) as u32,
     }
 }
 
-// A plan that names so many windows. It has those of the numbers, and behind them, as far as there is room, a staircase, in which each
-// window overlaps the one before it and the one behind it, and no other.
-pub(crate) fn put_plan(file: &mut [u8], windows: u64, numbers: &[u64]) {
-    put_numbers(file, [0, 12, windows, 0, 0, 0, 0]);
+// A window of a staircase, in which each overlaps the one before it and the one behind it, and no other.
+fn stair(position: usize) -> Window {
+    Window {
+        offset: (position % 4294967296) as u32,
+        length: 2,
+    }
+}
+
+// A plan that names so many windows. It has those given, which stand in the text from a place on, and behind them, as far as there is
+// room, a staircase.
+pub(crate) fn put_plan(file: &mut [u8], windows: u16, given: usize, text: &[u8], from: usize) {
+    wire::write_u16(file, 0, 12);
+    wire::write_u16(file, 2, windows);
+    let mut at = from;
     let mut position = 0;
     while position < GREATEST_COUNT {
-        plan::write_window(
-            window_of(numbers, position),
-            file,
-            HEADER_LENGTH + WINDOW_LENGTH * position,
-        );
+        let mut window = stair(position);
+        if position < given {
+            window = window_at(text, at);
+            at = next_word(text, next_word(text, at));
+        }
+        plan::write_window(window, file, HEADER_LENGTH + WINDOW_LENGTH * position);
         position += 1;
     }
 }
 
+// Paper 01's plan 12.
 pub(crate) fn plan_12() -> [u8; 60] {
     let mut file = [0; 60];
-    put_plan(&mut file, 7, &PLAN_12);
+    put_plan(&mut file, 7, 7, b"0 10 2 3 4 12 9 2 12 6 17 1 18 4", 0);
     file
 }

@@ -1,76 +1,99 @@
-// The calls that a row is put to.
+// The calls that a case is put to. Each is handed the text and where the case's first number stands in it.
 use crate::files;
-use crate::words;
+use crate::lines::next_word;
+use crate::lines::number_at;
 use crate::words::print_answer;
 use crate::words::print_table;
-use libc::STDOUT_FILENO;
 use plan::GREATEST_COUNT;
-use tag::Tag;
+use plan::HEADER_LENGTH;
+use plan::WINDOW_LENGTH;
+use poddreshi::poddreshi_chain;
+use poddreshi::poddreshi_neighbours;
+use poddreshi::poddreshi_pair;
+use poddreshi::poddreshi_pair_at;
+use poddreshi::poddreshi_reach;
+use poddreshi::poddreshi_tags;
+use tag_bytes::Tag;
 
-// The build of so many bytes of a file, and the chain between two positions in them.
-fn try_front(file: &[u8], bytes: usize, first: usize, second: usize) {
-    if bytes <= file.len() {
-        let front = &file[..bytes];
-        let mut tags = [0; Tag::LENGTH * GREATEST_COUNT];
-        let mut out = [9; 5];
-        print_answer(packing::pack_build(tree::tag_file(front, &mut tags)));
-        print_answer(packing::pack_chain(path::chain(front, first, second, &mut out)));
-        print_table(out);
-    }
+// One byte more than any plan, so that a file that is too long is among the cases.
+const BUFFER_LENGTH: usize = HEADER_LENGTH + WINDOW_LENGTH * GREATEST_COUNT + 1;
+
+// The tag of window 2 of plan 12: plan 12, component 0, depth 1, rank 3, rank of the last 2.
+const TAG_2: [u8; Tag::LENGTH] = [12, 0, 0, 0, 1, 0, 3, 0, 2, 0];
+
+// The build of a file and the chain between two positions in it.
+fn try_plan(file: &[u8], first: usize, second: usize) {
+    let mut tags = [0; Tag::LENGTH * GREATEST_COUNT];
+    print_answer(poddreshi_tags(file, &mut tags));
+    let mut out = [9; 5];
+    print_answer(poddreshi_chain(file, first, second, &mut out));
+    print_table(out);
 }
 
 // A file is a buffer's front, so that one buffer serves for every number of bytes.
-fn try_file(row: [u64; 7]) {
-    let mut file = [0; 16389];
-    files::put_plan(&mut file, row[2], &[row[3], row[4], row[5], row[6]]);
-    try_front(&file, row[1] as usize, 0, 1);
+fn try_file(text: &[u8], at: usize) {
+    let mut buffer = [0; BUFFER_LENGTH];
+    let bytes = number_at(text, at) as usize;
+    let named = next_word(text, at);
+    let windows = (number_at(text, named) % 65536) as u16;
+    files::put_plan(&mut buffer, windows, 2, text, next_word(text, named));
+    if bytes <= BUFFER_LENGTH {
+        try_plan(&buffer[..bytes], 0, 1);
+    }
 }
 
 // Two positions, by their tags and by the chain between them.
 fn try_pair(file: &[u8], first: usize, second: usize) {
     let mut tags = [0; Tag::LENGTH * 7];
-    tree::tag_file(file, &mut tags);
-    print_answer(packing::pack_pair(tag::pair_at(&tags, first, second)));
-    try_front(file, file.len(), first, second);
+    poddreshi_tags(file, &mut tags);
+    print_answer(poddreshi_pair_at(&tags, first, second));
+    try_plan(file, first, second);
 }
 
-fn try_position(file: &[u8], at: usize) {
+// One position, by its neighbours and its reach.
+fn try_window(file: &[u8], at: usize) {
     let mut out = [9; 5];
-    print_answer(packing::pack_neighbours(path::neighbours(file, at, &mut out)));
+    print_answer(poddreshi_neighbours(file, at, &mut out));
     print_table(out);
-    print_answer(packing::pack_reach(reaching::reach(file, at)));
+    print_answer(poddreshi_reach(file, at));
 }
 
-fn try_plan_12(row: [u64; 7]) {
+// Plan 12 is made here, for the one and the other.
+fn try_plan_12(pair: bool, first: usize, second: usize) {
     let file = files::plan_12();
-    if row[0] == 1 {
-        try_pair(&file, row[1] as usize, row[2] as usize);
+    if pair {
+        try_pair(&file, first, second);
     } else {
-        try_position(&file, row[1] as usize);
+        try_window(&file, first);
     }
 }
 
 // Two tags in both orders.
-fn print_pair(first: &[u8], second: &[u8]) {
-    print_answer(packing::pack_pair(tag::pair(first, second)));
-    print_answer(packing::pack_pair(tag::pair(second, first)));
+fn try_orders(first: &[u8], second: &[u8]) {
+    print_answer(poddreshi_pair(first, second));
+    print_answer(poddreshi_pair(second, first));
 }
 
-fn try_tag(row: [u64; 7]) {
-    let mut first = [0; 10];
-    let mut second = [0; 10];
-    files::put_numbers(&mut first, [3, 12, 0, 1, 3, 2, 0]);
-    files::put_numbers(&mut second, row);
-    print_pair(&first, &second);
+// A tag beside that of window 2 of plan 12.
+fn try_tag(text: &[u8], at: usize) {
+    let first = TAG_2;
+    let mut second = [0; Tag::LENGTH];
+    files::put_tag(&mut second, text, at);
+    try_orders(&first, &second);
 }
 
-// A line: the row, and each answer and table behind a colon.
-pub(crate) fn try_row(row: [u64; 7]) {
-    words::print_row(row);
-    match row[0] {
-        0 => try_file(row),
-        3 => try_tag(row),
-        _ => try_plan_12(row),
+// The line that begins at a place, by its first letter. One that is no case, as a comment, is put to nothing.
+pub(crate) fn try_line(text: &[u8], start: usize) {
+    if start < text.len() {
+        let kind = text[start];
+        let at = next_word(text, start);
+        let first = number_at(text, at) as usize;
+        match kind {
+            b'f' => try_file(text, at),
+            b'p' => try_plan_12(true, first, number_at(text, next_word(text, at)) as usize),
+            b'w' => try_plan_12(false, first, first),
+            b't' => try_tag(text, at),
+            _ => {}
+        }
     }
-    io::write_all(STDOUT_FILENO, b"\n");
 }

@@ -1,5 +1,5 @@
--- `cases::files::put_plan` is safe and ends. The loop's invariant: the position is at most the greatest count, and the file keeps its
--- length. The measure is what is left of the positions.
+-- `cases::files::put_plan` is safe and ends. The loop's invariant: at most as many windows as any plan has, and the file keeps its length. The
+-- measure is what is left of them.
 -- Assumes nothing.
 use Prim.Native.Nat.{_-_, _≤_}
 use mathlib.Core.Path.{_≡_}
@@ -10,19 +10,31 @@ use Rattle.cases.proofs.files.put_plan.Statement.{statement}
 use Rattle.cases.proofs.files.put_plan.Tie as tie
 
 abbrev Inv-loop : tie.InvT-loop
-Inv-loop file₀ windows numbers position₀ file position = (position ≤ greatestCount) × (length file ≡ length file₀)
+Inv-loop file₀ windows given text from at₀ position₀ file at position = (position ≤ greatestCount) × (length file ≡ length file₀)
 
 abbrev μ-loop : tie.MeasureT-loop
-μ-loop file₀ windows numbers position₀ file position = greatestCount - position
+μ-loop file₀ windows given text from at₀ position₀ file at position = greatestCount - position
 
-put-numbers-requires : tie.Need-put-numbers-requires Inv-loop μ-loop
-put-numbers-requires c κs = search needs
+write-u16-requires : tie.Need-write-u16-requires Inv-loop μ-loop
+write-u16-requires c κs = search needs
+
+write-u16-requires-2 : tie.Need-write-u16-requires-2 Inv-loop μ-loop
+write-u16-requires-2 c κs = search needs
 
 loop-holds : tie.Need-loop-holds Inv-loop μ-loop
 loop-holds c = search needs
 
-window-of-requires : tie.Need-window-of-requires Inv-loop μ-loop
-window-of-requires c κs = search needs
+stair-requires : tie.Need-stair-requires Inv-loop μ-loop
+stair-requires c κs = search needs
+
+window-at-requires : tie.Need-window-at-requires Inv-loop μ-loop
+window-at-requires c κs = search needs
+
+next-word-requires : tie.Need-next-word-requires Inv-loop μ-loop
+next-word-requires c κs = search needs
+
+next-word-requires-2 : tie.Need-next-word-requires-2 Inv-loop μ-loop
+next-word-requires-2 c κs = search needs
 
 mul-write-window : tie.Need-mul-write-window Inv-loop μ-loop
 mul-write-window c = search needs
@@ -50,5 +62,6 @@ returns c = search needs
 
 pub put-plan-spec : {M : Type 1} → statement M
 put-plan-spec =
-    tie.close (tie.spec Inv-loop μ-loop put-numbers-requires loop-holds window-of-requires mul-write-window add-write-window
-    write-window-requires add-position loop-less loop-again same-length returns)
+    tie.close (tie.spec Inv-loop μ-loop write-u16-requires write-u16-requires-2 loop-holds stair-requires window-at-requires
+    next-word-requires next-word-requires-2 mul-write-window add-write-window write-window-requires add-position loop-less loop-again
+    same-length returns)

@@ -1,4 +1,4 @@
--- `cases::words::print_table` is safe and ends. The loop's invariant: the place is at most their number. The measure is what is left of them.
+-- `cases::words::print_table` is safe and ends. The loop's invariant: the place is at most the table's length. The measure is what is left.
 -- Assumes nothing.
 use Prim.Native.Nat.{_-_, _≤_}
 use borrow.Author.Needs.{needs}
@@ -11,11 +11,8 @@ Inv-loop table at₀ at = at ≤ 5
 abbrev μ-loop : tie.MeasureT-loop
 μ-loop table at₀ at = 5 - at
 
-slice-aggregate-write-all : tie.Need-slice-aggregate-write-all Inv-loop μ-loop
-slice-aggregate-write-all c = search needs
-
-write-all-requires : tie.Need-write-all-requires Inv-loop μ-loop
-write-all-requires c κs = search needs
+print-byte-requires : tie.Need-print-byte-requires Inv-loop μ-loop
+print-byte-requires c κs = search needs
 
 loop-holds : tie.Need-loop-holds Inv-loop μ-loop
 loop-holds c = search needs
@@ -46,5 +43,5 @@ returns c = search needs
 
 pub print-table-spec : {M : Type 1} → statement M
 print-table-spec =
-    tie.close (tie.spec Inv-loop μ-loop slice-aggregate-write-all write-all-requires loop-holds mul-print-number array-read-print-number
-    cast-print-number print-number-requires add-at loop-less loop-again returns)
+    tie.close (tie.spec Inv-loop μ-loop print-byte-requires loop-holds mul-print-number array-read-print-number cast-print-number
+    print-number-requires add-at loop-less loop-again returns)
