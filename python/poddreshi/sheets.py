@@ -52,7 +52,7 @@ def make(plan: Given, data: bytes) -> Sheet:
             trips.append(_trip(plan, row))
         except (ValueError, Mistake, Refused) as error:
             faults.append(Fault(row.line, str(error)))
-    return Sheet(plan, trips, faults)
+    return Sheet(plan, trips, sorted(faults))
 
 
 def _rows(data: bytes) -> Tuple[List[Row], List[Fault]]:
