@@ -174,11 +174,14 @@ class Commands(Case):
 
     def test_exit_code(self):
         other = self.file("other.plan", plan((0, 1)))
-        for words in (("chain", self.plan, 5, 6), ("count", self.tags, 5, 6), ("same", self.plan, other)):
+        all_of_them = ("count", self.tags, 5, "--all")
+        for words in (("chain", self.plan, 5, 6), ("count", self.tags, 5, 6), all_of_them, ("same", self.plan, other)):
             self.assertEqual(self.run_front(*words).returncode, 0)
             self.assertEqual(self.run_front(*words, "--exit-code").returncode, 4)
         self.assertEqual(self.run_front("chain", self.plan, 4, 5, "--exit-code").returncode, 0)
         self.assertEqual(self.run_front("same", self.plan, self.plan, "--exit-code").returncode, 0)
+        joined = self.file("joined.tags", TAGS_12[:60])
+        self.assertEqual(self.run_front("count", joined, 5, "--all", "--exit-code").returncode, 0)
 
     def test_mistaken_commands(self):
         for words in (

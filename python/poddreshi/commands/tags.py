@@ -78,7 +78,8 @@ def _count_all(tags: bytes, first: int) -> Reply:
         shown.append((str(second), words))
         data.append(row)
         rows.append((first, second, words if row.get("handovers") is None else row["handovers"]))
-    status = REFUSED if faults else ANSWERED
+    joined = all(row.get("handovers") is not None for row in data)
+    status = REFUSED if faults else ANSWERED if joined else OTHERWISE
     data = {"first": first, "counts": data}
     return Reply(aligned(shown, right=(0,)), ("first", "second", "handovers"), rows, data, status=status, faults=faults)
 
