@@ -114,7 +114,7 @@ def csv_rows(lines: List[str], columns: Tuple[str, ...], wanted: int) -> Optiona
     else:
         return None
     places = [header.index(column) if column in header else None for column in columns]
-    kept = ["\n" if line.startswith("#") else line + "\n" for line in lines[start + 1 :]]
+    kept = ["\n" if line.lstrip().startswith("#") else line + "\n" for line in lines[start + 1 :]]
     rows, faults, reader = [], [], csv.reader(kept, delimiter=delimiter, strict=True)
     while True:
         try:

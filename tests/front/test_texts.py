@@ -42,7 +42,7 @@ class Reading(unittest.TestCase):
 
     def test_csv(self):
         for text in (
-            "offset,length,name\n0,10,North pier\n# left out\n2,3,\"Bay #3, \"\"old\"\"\"\n",
+            "offset,length,name\n0,10,North pier\n# left out\n  # this too\n2,3,\"Bay #3, \"\"old\"\"\"\n",
             "\ufeffname;Length (minutes);OFFSET\r\nNorth pier;10;0\r\n\"Bay #3, \"\"old\"\"\";3;2\r\n",
             "# a comment\noffset\tlength\tname\n0\t10\tNorth pier\n\n2\t3\tBay #3, \"old\"\n",
         ):
