@@ -69,7 +69,8 @@ def _of_lines(data: bytes, windows: List[Window]) -> Names:
 
 def _put(names: Names, seen: dict, line: int, cells: List[str]) -> None:
     if len(cells) != 2 or not _POSITION.fullmatch(cells[0]):
-        raise ValueError("a line of names has a position and a name, unless the file is the text of just this plan")
+        whose = "the file is the text of just this plan (which takes --origin where it has dates)"
+        raise ValueError(f"a line of names has a position and a name, unless {whose}")
     position = int(cells[0])
     if position >= len(names):
         raise ValueError(f"there is no window {position:,}: the plan has {counted(len(names), 'window')}")

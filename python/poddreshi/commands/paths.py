@@ -115,7 +115,10 @@ COMMANDS = [
         "a shortest chain between two windows, from the later to the earlier",
         _chain_arguments,
         _chain,
-        ["poddreshi chain examples/plan-12.plan 1 5", "poddreshi chain year.plan 3 9 --names year.txt --origin 2026-01-01"],
+        [
+            "poddreshi chain examples/plan-12.plan 1 5",
+            "poddreshi chain year.plan 2 7 --names examples/year.txt --origin 2026-01-01",
+        ],
         "Of the shortest chains it is the one with the earliest window at each step. With --names or --origin there is a line "
         "for each window: position, name, begin and end.",
     ),
@@ -139,7 +142,7 @@ COMMANDS = [
         "whether the same pairs of windows overlap in two plans",
         _same_arguments,
         _same,
-        ["poddreshi same examples/plan-12.plan other.plan --exit-code"],
+        ["poddreshi same examples/plan-12.plan examples/plan-31.plan --exit-code"],
         "Where they differ, the first position and the first window that overlaps it in one of the plans alone are named.",
     ),
 ]

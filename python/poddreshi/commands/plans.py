@@ -94,7 +94,7 @@ COMMANDS = [
         "the text of a plan, from which `plan` makes it again",
         _text_arguments,
         lambda args: _text_reply(given(args)),
-        ["poddreshi text examples/plan-12.plan", "poddreshi text year.plan --origin 2026-01-01 --names year.txt --csv"],
+        ["poddreshi text examples/plan-12.plan", "poddreshi text year.plan --origin 2026-01-01 --names examples/year.txt --csv"],
     ),
     Command(
         "plan",

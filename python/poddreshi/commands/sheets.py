@@ -30,8 +30,8 @@ COMMANDS = [
         _chains_arguments,
         _chains,
         [
-            "poddreshi chains year.plan rigs.txt --names examples/year.txt --origin 2026-01-01",
-            "poddreshi chains year.plan rigs.txt --html -o friday.html",
+            "poddreshi chains year.plan examples/rigs.txt --names examples/year.txt --origin 2026-01-01",
+            "poddreshi chains year.plan examples/rigs.txt --html -o friday.html",
         ],
         "The last two words of a line are positions, or names in double quotes where --names gives them; or RIGS is CSV with "
         "the header `rig,present,wanted`. A line that is wrong is named and spoils no other; the exit status is then 1.",

@@ -141,6 +141,10 @@ COMMANDS = [
         "the least number of handovers between two windows, from their tags alone",
         _count_arguments,
         _count,
-        ["poddreshi count 4.tag 5.tag", "poddreshi count plan-12.tags 1 5", "poddreshi count plan-12.tags 1 --all --csv"],
+        [
+            "poddreshi count cabinets/0004.tag cabinets/0005.tag",
+            "poddreshi count plan-12.tags 1 5",
+            "poddreshi count plan-12.tags 1 --all --csv",
+        ],
     ),
 ]
