@@ -30,28 +30,6 @@ words."""
 WIDTH = min(shutil.get_terminal_size().columns, 100)  # of the help
 
 
-class Command(NamedTuple):
-    name: str
-    summary: str
-    arguments: Callable[["Parser"], object]
-    run: Callable[[argparse.Namespace], Reply]
-    examples: Sequence[str]
-    details: str = ""
-    needs_library: bool = True
-
-
-class _Tell(argparse.Action):
-    """Help and version go the way of every output, so that a full disk is seen."""
-
-    def __init__(self, *words, tells, **options):
-        super().__init__(*words, nargs=0, default=argparse.SUPPRESS, **options)
-        self.tells = tells
-
-    def __call__(self, parser, namespace, values, option_string=None):
-        files.write(None, self.tells(parser).encode())
-        raise SystemExit(failures.ANSWERED)
-
-
 class Parser(argparse.ArgumentParser):
     def __init__(self, **options):
         super().__init__(
@@ -60,35 +38,32 @@ class Parser(argparse.ArgumentParser):
             formatter_class=lambda prog: argparse.RawDescriptionHelpFormatter(prog, max_help_position=26, width=WIDTH),
             **options,
         )
-        self.add_argument("-h", "--help", action=_Tell, tells=Parser.format_help, help="show this and exit")
+        self.add_argument("-h", "--help", action="help", help="show this and exit")
 
     def error(self, message: str):
         raise Mistake(f"{message}; see {self.prog} --help")
 
-    def plan(self) -> None:
-        self.add_argument("plan", metavar="PLAN", help="a plan file")
+    def _print_message(self, message: str, file=None) -> None:
+        """Help and version go the way of every output, so that a full disk is seen."""
+        files.write(None, message.encode())
 
-    def output(self) -> None:
-        self.add_argument("-o", "--output", metavar="FILE", help="write to a file, which is replaced when all is there")
 
-    def forms(self, *others: str) -> None:
-        """The forms of an answer beside text."""
-        group = self.add_mutually_exclusive_group()
-        for form in ("csv", "json", *others):
-            words = f"answer as {form.upper()}"
-            group.add_argument(f"--{form}", dest="form", action="store_const", const=form, default="text", help=words)
-        self.output()
+Argument = Callable[[Parser], object]  # adds an argument or some
 
-    def exit_code(self, answer: str) -> None:
-        self.add_argument("--exit-code", action="store_true", help=f'exit with 4 where the answer is "{answer}"')
 
-    def origin(self) -> None:
-        self.add_argument("--origin", metavar="DATE", type=date, help="the date of minute 0: 2026-01-01, or with a time")
+class Command(NamedTuple):
+    run: Callable[[argparse.Namespace], Reply]
+    name: str
+    summary: str
+    arguments: Sequence[Argument]
+    examples: Sequence[str]
+    details: str = ""
+    usage: Optional[str] = None
 
-    def names(self) -> None:
-        words = "show names: the plan's own text, or lines of a position and a name"
-        self.add_argument("--names", metavar="FILE", help=words)
-        self.origin()
+
+def command(*words, **options) -> Callable[[Callable], Command]:
+    """Makes the function below it a subcommand."""
+    return lambda run: Command(run, *words, **options)
 
 
 def date(words: str) -> datetime:
@@ -96,6 +71,38 @@ def date(words: str) -> datetime:
         return times.date(words)
     except ValueError as error:
         raise argparse.ArgumentTypeError(str(error)) from None
+
+
+def word(name: str, help: str, metavar: str = "", **options) -> Argument:
+    """A word of the command, which the help has in capitals."""
+    return lambda parser: parser.add_argument(name, metavar=metavar or name.upper(), help=help, **options)
+
+
+def option(*names: str, **options) -> Argument:
+    return lambda parser: parser.add_argument(*names, **options)
+
+
+def forms(*others: str) -> Argument:
+    """The forms of an answer beside text, and where it goes."""
+
+    def add(parser: Parser) -> None:
+        group = parser.add_mutually_exclusive_group()
+        for form in ("csv", "json", *others):
+            words = f"answer as {form.upper()}"
+            group.add_argument(f"--{form}", dest="form", action="store_const", const=form, default="text", help=words)
+        OUTPUT(parser)
+
+    return add
+
+
+def exit_code(answer: str) -> Argument:
+    return option("--exit-code", action="store_true", help=f'exit with 4 where the answer is "{answer}"')
+
+
+PLAN = word("plan", "a plan file")
+OUTPUT = option("-o", "--output", metavar="FILE", help="write to a file, which is replaced when all is there")
+ORIGIN = option("--origin", metavar="DATE", type=date, help="the date of minute 0: 2026-01-01, or with a time")
+NAMES = option("--names", metavar="FILE", help="show names: the plan's own text, or lines of a position and a name")
 
 
 def number(words: str, limit: Optional[int] = None, thing: str = "a position") -> int:
@@ -140,18 +147,19 @@ def _filled(words: str) -> str:
 
 def parser(commands: Sequence[Command]) -> Parser:
     top = Parser(prog="poddreshi", description=_filled(DESCRIPTION), epilog=_filled(STATUS))
-    version = f"poddreshi {__version__}\n"
-    top.add_argument("--version", action=_Tell, tells=lambda _: version, help="show the version and exit")
-    below = top.add_subparsers(metavar="COMMAND", dest="command", required=True, parser_class=Parser)
-    for command in commands:
+    top.add_argument("--version", action="version", version=f"poddreshi {__version__}", help="show the version and exit")
+    below = top.add_subparsers(metavar="COMMAND", dest="command", required=True)
+    for each in commands:
         own = below.add_parser(
-            command.name,
-            help=command.summary,
-            description=_filled(f"{command.summary[0].upper()}{command.summary[1:]}. {command.details}"),
-            epilog="\n  ".join(["examples:", *command.examples]),
+            each.name,
+            help=each.summary,
+            description=_filled(f"{each.summary[0].upper()}{each.summary[1:]}. {each.details}"),
+            epilog="\n  ".join(["examples:", *each.examples]),
+            usage=each.usage,
         )
-        command.arguments(own)
-        own.set_defaults(run=command.run, needs_library=command.needs_library)
+        for add in each.arguments:
+            add(own)
+        own.set_defaults(run=each.run)
     return top
 
 
@@ -166,7 +174,7 @@ def say(line: str) -> None:
 def _answer(commands: Sequence[Command], words: Optional[Sequence[str]]) -> int:
     args = parser(commands).parse_args(words)
     root = places.checkout()
-    if args.needs_library and root and not places.told():
+    if root and not places.told():
         building.ensure(root)
     reply = args.run(args)
     files.write(getattr(args, "output", None), reply.encoded(getattr(args, "form", "text")))

@@ -2,7 +2,7 @@
 from typing import Optional, Tuple
 
 from .. import calls
-from ..commandline import Command, given
+from ..commandline import NAMES, ORIGIN, OUTPUT, PLAN, command, given, option, word
 from ..failures import Mistake
 from ..given import Given
 from ..pictures import Scene, draw
@@ -24,6 +24,25 @@ def _span(args, plan: Given) -> Optional[Tuple[int, int]]:
     return start, end
 
 
+@command(
+    "draw",
+    "a picture of a plan (SVG), with a chain marked where two windows are named",
+    [
+        PLAN,
+        word("first", "a position, or a name; its chain to SECOND is marked", nargs="?"),
+        word("second", "a position, or a name", nargs="?"),
+        option("--from", dest="since", metavar="TIME", help="leave out what lies before: a minute, or a date"),
+        option("--to", dest="until", metavar="TIME", help="leave out what lies after"),
+        option("--whole", action="store_true", help="show all windows, also beside a chain"),
+        *(NAMES, ORIGIN, OUTPUT),
+    ],
+    [
+        "poddreshi draw examples/plan-12.plan -o plan-12.svg",
+        "poddreshi draw examples/plan-12.plan 1 5 -o chain.svg",
+        "poddreshi draw year.plan --origin 2026-01-01 --from 2026-02-01 --to 2026-04-01 -o spring.svg",
+    ],
+    "With two windows the picture shows their components alone. Stretches with no window are cut out, with a mark.",
+)
 def _draw(args) -> Reply:
     if (args.first is None) != (args.second is None):
         raise Mistake("draw takes a plan, and two positions where a chain is to be marked")
@@ -41,28 +60,4 @@ def _draw(args) -> Reply:
     return Reply(content=draw(Scene(plan, tree, shown, ends, chain, span)).encode())
 
 
-def _draw_arguments(parser) -> None:
-    parser.plan()
-    parser.add_argument("first", metavar="FIRST", nargs="?", help="a position, or a name; its chain to SECOND is marked")
-    parser.add_argument("second", metavar="SECOND", nargs="?", help="a position, or a name")
-    parser.add_argument("--from", dest="since", metavar="TIME", help="leave out what lies before: a minute, or a date")
-    parser.add_argument("--to", dest="until", metavar="TIME", help="leave out what lies after")
-    parser.add_argument("--whole", action="store_true", help="show all windows, also beside a chain")
-    parser.names()
-    parser.output()
-
-
-COMMANDS = [
-    Command(
-        "draw",
-        "a picture of a plan (SVG), with a chain marked where two windows are named",
-        _draw_arguments,
-        _draw,
-        [
-            "poddreshi draw examples/plan-12.plan -o plan-12.svg",
-            "poddreshi draw examples/plan-12.plan 1 5 -o chain.svg",
-            "poddreshi draw year.plan --origin 2026-01-01 --from 2026-02-01 --to 2026-04-01 -o spring.svg",
-        ],
-        "With two windows the picture shows their components alone. Stretches with no window are cut out, with a mark.",
-    ),
-]
+COMMANDS = [_draw]
