@@ -4,7 +4,7 @@ from typing import List, Optional
 
 from .failures import Mistake
 from .plans import Window
-from .texts import Fault, Faulty, clean, csv_rows, lines_of, parse, unquoted, uncommented
+from .texts import Faulty, Row, clean, parse, read_rows, unquoted
 from .times import Clock
 from .wording import cited, counted
 
@@ -49,31 +49,20 @@ def _of_text(data: bytes, windows: List[Window], clock: Clock) -> Optional[Names
 
 
 def _of_lines(data: bytes, windows: List[Window]) -> Names:
-    lines, faults = lines_of(data)
-    table = csv_rows(lines, ("position", "name"), 2)
-    if table is None:
-        rows = [(number, uncommented(line).split(None, 1)) for number, line in enumerate(lines, 1)]
-    else:
-        rows, faults = [(row.line, row.cells) for row in table[0]], faults + table[1]
     names, seen = unnamed(windows), {}
-    for line, cells in rows:
-        try:
-            if cells:
-                _put(names, seen, line, cells)
-        except ValueError as error:
-            faults.append(Fault(line, str(error)))
+    _, faults = read_rows(data, ("position", "name"), 2, lambda line: line.split(None, 1), lambda row: _put(names, seen, row))
     if faults:
         raise Faulty(faults)
     return names
 
 
-def _put(names: Names, seen: dict, line: int, cells: List[str]) -> None:
-    if len(cells) != 2 or not _POSITION.fullmatch(cells[0]):
+def _put(names: Names, seen: dict, row: Row) -> None:
+    if len(row.cells) != 2 or not _POSITION.fullmatch(row.cells[0]):
         whose = "the file is the text of just this plan (which takes --origin where it has dates)"
         raise ValueError(f"a line of names has a position and a name, unless {whose}")
-    position = int(cells[0])
+    position = int(row.cells[0])
     if position >= len(names):
         raise ValueError(f"there is no window {position:,}: the plan has {counted(len(names), 'window')}")
     if position in seen:
         raise ValueError(f"window {position} has its name on line {seen[position]}")
-    names[position], seen[position] = clean(unquoted(cells[1])), line
+    names[position], seen[position] = clean(unquoted(row.cells[1])), row.line

@@ -57,7 +57,6 @@ class Asked(NamedTuple):
     tags: Sequence[bytes] = ()
     tag_file: Optional[bytes] = None
     positions: Sequence[int] = ()
-    before: int = 0  # windows that stand before the plan's and were left out
 
 
 class Refused(Exception):
@@ -124,11 +123,11 @@ def _plan_facts(asked: Asked, input: int, position: int) -> dict:
         windows = figures.HEADER.unpack_from(file)[1]
         facts["windows"], facts["holder"] = counted(windows, "window"), _holder("the plan", windows, "window")
         facts["wanted"] = figures.HEADER_LENGTH + figures.WINDOW_LENGTH * windows
-    start = figures.HEADER_LENGTH + figures.WINDOW_LENGTH * (position - asked.before)
+    start = figures.HEADER_LENGTH + figures.WINDOW_LENGTH * position
     if start + figures.WINDOW_LENGTH <= len(file):
         offset, length = figures.WINDOW.unpack_from(file, start)
         facts.update(offset=offset, length=length, end=offset + length)
-        if position > asked.before:
+        if position:
             facts["before"] = figures.WINDOW.unpack_from(file, start - figures.WINDOW_LENGTH)[0]
     return facts
 

@@ -37,11 +37,11 @@ class Reply(NamedTuple):
         return json.dumps(self.data, ensure_ascii=False, indent=2) + "\n"
 
 
-def aligned(rows: Sequence[Sequence[str]], right: Sequence[int] = ()) -> str:
+def aligned(rows: Sequence[Sequence[str]], right: Sequence[int] = (), between: str = "  ") -> str:
     """Lines of cells that stand below one another; the columns named in `right` are set to the right."""
     widths = [max(map(len, column)) for column in zip(*rows)]
     lines = (
-        "  ".join(cell.rjust(width) if at in right else cell.ljust(width) for at, (cell, width) in enumerate(zip(row, widths)))
+        between.join(cell.rjust(width) if at in right else cell.ljust(width) for at, (cell, width) in enumerate(zip(row, widths)))
         for row in rows
     )
     return "".join(line.rstrip() + "\n" for line in lines)

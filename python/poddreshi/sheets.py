@@ -2,14 +2,12 @@
 from typing import List, NamedTuple, Optional, Sequence, Tuple, Union
 
 from . import calls
-from .failures import ANSWERED, OTHERWISE, REFUSED, Mistake
+from .failures import ANSWERED, OTHERWISE, REFUSED
 from .given import Given, shared_minutes
-from .refusals import Refused
 from .replies import Reply, aligned
-from .texts import Fault, Faulty, Row, clean, csv_rows, lines_of, words_of
+from .texts import Fault, Faulty, Row, clean, read_rows, words_of
 from .wording import counted
 
-_COLUMNS = ("rig", "present", "wanted")
 _LINE = "a line has a rig's name, its present window and the window where it is wanted"
 HEADER = (
     *("line", "rig", "present", "wanted", "answer", "handovers"),
@@ -43,26 +41,16 @@ class Sheet(NamedTuple):
 
 def make(plan: Given, data: bytes) -> Sheet:
     """The sheet for lines of a rig's name and two windows. A line that is wrong is kept as a fault, and spoils no other."""
-    rows, faults = _rows(data)
-    if not rows and not faults:
+    trips, faults = read_rows(data, ("rig", "present", "wanted"), 3, _cells, lambda row: _trip(plan, row))
+    if not trips and not faults:
         raise Faulty([Fault(1, f"there is no rig; {_LINE}")])
-    trips = []
-    for row in rows:
-        try:
-            trips.append(_trip(plan, row))
-        except (ValueError, Mistake, Refused) as error:
-            faults.append(Fault(row.line, str(error)))
-    return Sheet(plan, trips, sorted(faults))
+    return Sheet(plan, trips, faults)
 
 
-def _rows(data: bytes) -> Tuple[List[Row], List[Fault]]:
-    lines, faults = lines_of(data)
-    table = csv_rows(lines, _COLUMNS, 3)
-    if table is not None:
-        return table[0], faults + table[1]
-    found = [(number, words_of(line)) for number, line in enumerate(lines, 1)]
-    # The last two words are windows, and a rig's name may have several.
-    return [Row(number, [" ".join(words[:-2]), *words[-2:]]) for number, words in found if words], faults
+def _cells(line: str) -> List[str]:
+    """The last two words are windows, and a rig's name may have several."""
+    words = words_of(line)
+    return [" ".join(words[:-2]), *words[-2:]]
 
 
 def _trip(plan: Given, row: Row) -> Trip:
