@@ -137,7 +137,7 @@ def reading(name: str) -> Iterator[None]:
     try:
         yield
     except Faulty as bad:
-        bad.source = files.STANDARD_INPUT if name == "-" else name
+        bad.source = files.called(name)
         raise
 
 
@@ -163,14 +163,6 @@ def parser(commands: Sequence[Command]) -> Parser:
     return top
 
 
-def say(line: str) -> None:
-    """A line on standard error. What an input holds is shown, and never obeyed by a terminal."""
-    shown = "".join(each if each.isprintable() else each.encode("unicode_escape").decode() for each in line)
-    with contextlib.suppress(OSError):
-        sys.stderr.write(shown + "\n")
-        sys.stderr.flush()
-
-
 def _answer(commands: Sequence[Command], words: Optional[Sequence[str]]) -> int:
     args = parser(commands).parse_args(words)
     root = places.checkout()
@@ -179,7 +171,7 @@ def _answer(commands: Sequence[Command], words: Optional[Sequence[str]]) -> int:
     reply = args.run(args)
     files.write(getattr(args, "output", None), reply.encoded(getattr(args, "form", "text")))
     for fault in reply.faults:
-        say(fault)
+        files.say(fault)
     if reply.status == failures.OTHERWISE and not getattr(args, "exit_code", False):
         return failures.ANSWERED
     return reply.status
@@ -192,28 +184,28 @@ def main(commands: Sequence[Command], words: Optional[Sequence[str]] = None) -> 
     try:
         return _answer(commands, words)
     except Refused as no:
-        say(str(no))
+        files.say(str(no))
         return failures.REFUSED
     except Faulty as bad:
         for fault in bad.faults:
-            say(f"{bad.source}, {fault}")
+            files.say(f"{bad.source}, {fault}")
         return failures.REFUSED
     except Mistake as mistake:
-        say(f"poddreshi: {mistake}")
+        files.say(f"poddreshi: {mistake}")
         return failures.MISTAKEN
     except (Failure, LibraryMissing) as failure:
-        say(f"poddreshi: {failure}")
+        files.say(f"poddreshi: {failure}")
         return failures.FAILED
     except OSError as error:
-        say(f"poddreshi: {Failure.of(error.filename or 'the system', error)}")
+        files.say(f"poddreshi: {Failure.of(error.filename or 'the system', error)}")
         return failures.FAILED
     except MemoryError:
-        say("poddreshi: there is too little memory")
+        files.say("poddreshi: there is too little memory")
         return failures.FAILED
     except KeyboardInterrupt:
         return failures.INTERRUPTED
     except Exception:
         if os.environ.get("PODDRESHI_TRACEBACK"):
             raise
-        say("poddreshi: something went wrong that should not have; PODDRESHI_TRACEBACK=1 shows where")
+        files.say("poddreshi: something went wrong that should not have; PODDRESHI_TRACEBACK=1 shows where")
         return failures.FAILED

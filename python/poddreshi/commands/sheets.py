@@ -25,7 +25,7 @@ def _chains(args) -> Reply:
     plan = given(args)
     with reading(args.rigs):
         sheet = sheets.make(plan, files.read_whole(args.rigs, TEXT_LIMIT, "list of rigs"))
-    reply = sheets.reply(sheet, files.STANDARD_INPUT if args.rigs == "-" else args.rigs)
+    reply = sheets.reply(sheet, files.called(args.rigs))
     return reply._replace(content=pages.page(sheet).encode()) if args.form == "html" else reply
 
 
