@@ -27,21 +27,9 @@ CALLS = {
 }
 
 
-class Kind(IntEnum):
-    """What the first field of an answer says."""
-
-    REFUSED = 0
-    ACCEPTED = 1
-    BUILT = 2
-    REACH = 3
-    CHAIN = 4
-    NO_CHAIN = 5
-    NEIGHBOURS = 6
-    SAME = 7
-    DIFFERENT = 8
-    HANDOVERS = 9
-    FOUND = 10
-    WRITTEN = 11
+# What the first field of an answer says, from 0.
+_KINDS = "REFUSED ACCEPTED BUILT REACH CHAIN NO_CHAIN NEIGHBOURS SAME DIFFERENT HANDOVERS FOUND WRITTEN"
+Kind = IntEnum("Kind", _KINDS, start=0)
 
 
 class LibraryMissing(OSError):
