@@ -119,7 +119,7 @@ def given(args: argparse.Namespace) -> Given:
     once(args.plan, args.names)
     file = files.read(args.plan, figures.PLAN_LIMIT)
     accepted, windows, clock = calls.validate(file), windows_of(file), Clock(args.origin)
-    named = names.unnamed(windows)
+    named = names.Names([""] * len(windows))
     if args.names is not None:
         with reading(args.names):
             named = names.read(files.read_whole(args.names, figures.TEXT_LIMIT, "file of names"), windows, clock)

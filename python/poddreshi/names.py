@@ -31,10 +31,6 @@ class Names(list):
         raise Mistake(f"there is no window {cited(word)}; {hint}")
 
 
-def unnamed(windows: List[Window]) -> Names:
-    return Names([""] * len(windows))
-
-
 def read(data: bytes, windows: List[Window], clock: Clock) -> Names:
     """The names in a file. It is the plan's text where its windows are the plan's; otherwise lines of a position and a name."""
     return _of_text(data, windows, clock) or _of_lines(data, windows)
@@ -49,7 +45,7 @@ def _of_text(data: bytes, windows: List[Window], clock: Clock) -> Optional[Names
 
 
 def _of_lines(data: bytes, windows: List[Window]) -> Names:
-    names, seen = unnamed(windows), {}
+    names, seen = Names([""] * len(windows)), {}
     _, faults = read_rows(data, ("position", "name"), 2, lambda line: line.split(None, 1), lambda row: _put(names, seen, row))
     if faults:
         raise Faulty(faults)

@@ -2,6 +2,7 @@
 
 Nothing is judged here, only placed: which windows overlap, a window's parent and the chain come from the library.
 """
+import itertools
 from typing import Dict, FrozenSet, List, NamedTuple, Optional, Sequence, Tuple
 
 from .axes import Axis, marks
@@ -29,11 +30,6 @@ class Scene(NamedTuple):
     span: Optional[Tuple[int, int]] = None  # minutes to which the picture is cut
     chart: float = 1000  # width of the bars' part
 
-    @property
-    def marked(self) -> FrozenSet[int]:
-        """The windows that stand out."""
-        return frozenset((*(self.ends or ()), *(self.chain or ())))
-
 
 class Panel(NamedTuple):
     """Rows of windows with an axis of their own."""
@@ -43,7 +39,7 @@ class Panel(NamedTuple):
     top: float
     row: float
     shown: FrozenSet[int]  # in all panels
-    marked: FrozenSet[int]
+    marked: FrozenSet[int]  # which stand out
 
     @property
     def bottom(self) -> float:
@@ -75,24 +71,27 @@ def description(scene: Scene) -> str:
 def draw(scene: Scene) -> str:
     """The picture as SVG."""
     row, rows = next((row, rows) for limit, row, rows in ROWS if limit is None or len(scene.shown) <= limit)
-    left = MARGIN + _label_width(scene, row) + 10
+    # Room for positions, and for names up to a point.
+    longest = max([64, *(width(_label(scene, at), _font(row)) for at in scene.shown)])
+    left = MARGIN + min(longest, 220) + 10
     right = left + scene.chart
     wide = right + 150 + MARGIN
-    drawing = Drawing()
-    top, shown, marked = _heading(drawing, scene, wide), frozenset(scene.shown), scene.marked
+    drawing, top = Drawing(), 60
+    drawing.text(MARGIN, 30, title(scene), 20, INK, wide - 2 * MARGIN)
+    drawing.text(MARGIN, 52, _subtitle(scene), 13, GREY, wide - 2 * MARGIN)
+    shown, marked = frozenset(scene.shown), frozenset((*(scene.ends or ()), *(scene.chain or ())))
     for positions in _panels(scene, rows):
         start, end = scene.span or (0, max(window.end for window in scene.plan.windows))
         axis = Axis([scene.plan.windows[at] for at in positions], start, end, left, right)
         panel = Panel({position: at for at, position in enumerate(positions)}, axis, top + AXIS, row, shown, marked)
-        _panel(drawing, scene, panel, wide)
+        _bands(drawing, scene, panel, wide)
+        _axis(drawing, scene, panel)
+        _parents(drawing, scene, panel)
+        for position in positions:
+            _bar(drawing, scene, panel, position)
+        _handovers(drawing, scene, panel)
         top = panel.bottom + BELOW
     return drawing.finish(wide, top + MARGIN, title(scene), description(scene))
-
-
-def _label_width(scene: Scene, row: float) -> float:
-    """Room for positions, and for names up to a point."""
-    longest = max((width(_label(scene, at), _font(row)) for at in scene.shown), default=0)
-    return min(max(longest, 64), 220)
 
 
 def _label(scene: Scene, position: int) -> str:
@@ -118,13 +117,6 @@ def _panels(scene: Scene, rows: int) -> List[List[int]]:
     return panels
 
 
-def _heading(drawing: Drawing, scene: Scene, wide: float) -> float:
-    room = wide - 2 * MARGIN
-    drawing.text(MARGIN, 30, title(scene), 20, INK, room)
-    drawing.text(MARGIN, 52, _subtitle(scene), 13, GREY, room)
-    return 60
-
-
 def _subtitle(scene: Scene) -> str:
     if not scene.shown:
         return "no window to show"
@@ -135,27 +127,15 @@ def _subtitle(scene: Scene) -> str:
     return f"chain {' '.join(map(str, scene.chain))} (from the later window to the earlier)"
 
 
-def _panel(drawing: Drawing, scene: Scene, panel: Panel, wide: float) -> None:
-    _bands(drawing, scene, panel, wide)
-    _axis(drawing, scene, panel)
-    _parents(drawing, scene, panel)
-    for position in panel.rows:
-        _bar(drawing, scene, panel, position)
-    _handovers(drawing, scene, panel)
-
-
 def _bands(drawing: Drawing, scene: Scene, panel: Panel, wide: float) -> None:
     """Components are contiguous, so each is a band of rows; every second one is shaded."""
-    components, start = [scene.tree.component_of[position] for position in panel.rows], 0
-    for at, component in enumerate(components, 1):
-        if at < len(components) and components[at] == component:
-            continue
-        top, high = panel.top + panel.row * start, panel.row * (at - start)
+    for component, positions in itertools.groupby(panel.rows, key=lambda position: scene.tree.component_of[position]):
+        positions = list(positions)
+        top = panel.top + panel.row * panel.rows[positions[0]]
         if component % 2 == 0:
-            drawing.element("rect", x=0, y=top, width=wide, height=high, fill=BAND)
+            drawing.element("rect", x=0, y=top, width=wide, height=panel.row * len(positions), fill=BAND)
         size, beside = min(_font(panel.row), 11), panel.axis.right + 12
         drawing.text(beside, top + panel.row / 2 + size / 3, f"component {component}", size, GREY, wide - beside - MARGIN)
-        start = at
 
 
 def _axis(drawing: Drawing, scene: Scene, panel: Panel) -> None:
@@ -249,8 +229,7 @@ def _handovers(drawing: Drawing, scene: Scene, panel: Panel) -> None:
     edge of this one."""
     chain = scene.chain or ()
     for later, earlier in zip(chain, chain[1:]):
-        shared = shared_minutes(scene.plan.windows[later], scene.plan.windows[earlier])
-        minute = sum(shared) / 2
+        minute = sum(shared_minutes(scene.plan.windows[later], scene.plan.windows[earlier])) / 2
         if not panel.axis.start <= minute <= panel.axis.end:
             continue
         here = [at for at in (later, earlier) if at in panel.rows]

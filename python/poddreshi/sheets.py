@@ -25,8 +25,8 @@ class Trip(NamedTuple):
     chain: Optional[Tuple[int, ...]]
 
     @property
-    def answer(self) -> str:
-        return str(calls.Chain(self.chain).handovers)
+    def handovers(self) -> calls.Handovers:
+        return calls.Chain(self.chain).handovers
 
 
 class Sheet(NamedTuple):
@@ -76,7 +76,7 @@ def steps(plan: Given, trip: Trip) -> List[list]:
 
 
 def heading(plan: Given, trip: Trip) -> str:
-    return f"{trip.rig}: from {plan.names.label(trip.present)} to {plan.names.label(trip.wanted)}: {trip.answer}"
+    return f"{trip.rig}: from {plan.names.label(trip.present)} to {plan.names.label(trip.wanted)}: {trip.handovers}"
 
 
 def summary(sheet: Sheet) -> str:
@@ -86,9 +86,9 @@ def summary(sheet: Sheet) -> str:
     if sheet.faults:
         words.append(f"{counted(len(sheet.faults), 'line')} not read")
     if joined:
-        longest = max(joined, key=lambda trip: len(trip.chain))
-        total = sum(len(trip.chain) - 1 for trip in joined)
-        words.append(f"{total} handovers in all, at most {len(longest.chain) - 1} ({longest.rig})")
+        longest = max(joined, key=lambda trip: trip.handovers)
+        total = sum(trip.handovers.count for trip in joined)
+        words.append(f"{total} handovers in all, at most {longest.handovers.count} ({longest.rig})")
     return ", ".join(words)
 
 
@@ -114,17 +114,16 @@ def _csv(sheet: Sheet) -> List[list]:
         elif each.chain is None:
             rows.append([*each[:4], "no chain"] + [""] * 8)
         else:
-            head = [*each[:4], "chain", len(each.chain) - 1]
+            head = [*each[:4], "chain", each.handovers.count]
             rows += [[*head, step, *row] for step, row in enumerate(steps(sheet.plan, each))]
     return rows
 
 
 def _data(sheet: Sheet) -> dict:
-    rigs = []
-    for trip in sheet.trips:
-        chain = None if trip.chain is None else [sheet.plan.data(position) for position in trip.chain]
-        count = None if trip.chain is None else len(trip.chain) - 1
-        rigs.append({**trip._asdict(), "handovers": count, "chain": chain})
+    rigs = [
+        {**trip._asdict(), "handovers": trip.handovers.count, "chain": trip.chain and [*map(sheet.plan.data, trip.chain)]}
+        for trip in sheet.trips
+    ]
     faults = [fault._asdict() for fault in sheet.faults]
     return {"plan": sheet.plan.number, "rigs": rigs, "faults": faults, "summary": summary(sheet)}
 
