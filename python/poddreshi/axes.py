@@ -99,16 +99,10 @@ def marks(axis: Axis, clock: Clock) -> List[Mark]:
             minutes.insert(0, stretch.start)
         for minute in minutes:
             if axis.place(minute) - free >= _APART:
-                found.append(_mark(minute, clock, date))
-                free, date = axis.place(minute), found[-1].date or date
+                day, label = ("", f"{minute:,}") if clock.origin is None else clock.show(minute).split(" ")
+                found.append(Mark(minute, label, day if day != date else ""))
+                free, date = axis.place(minute), day
     return found
-
-
-def _mark(minute: int, clock: Clock, date: str) -> Mark:
-    if clock.origin is None:
-        return Mark(minute, f"{minute:,}", "")
-    day, time = clock.show(minute).split(" ")
-    return Mark(minute, time, day if day != date else "")
 
 
 def _minutes(stretch: Stretch, scale: float, clock: Clock) -> Iterator[int]:

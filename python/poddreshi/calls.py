@@ -6,7 +6,7 @@ from typing import NamedTuple, Optional, Tuple
 
 from . import library
 from .figures import PLAN_NUMBER_LIMIT, TAG, TAG_LENGTH, WINDOWS_LIMIT
-from .library import Kind, flat, lend, position, room, table
+from .library import Kind, lend, position, room, table
 from .refusals import Asked, refusal
 from .wording import counted
 
@@ -185,9 +185,9 @@ def pair_at(tags, first: int, second: int) -> Handovers:
 
 def lookup(tags, at: int) -> bytes:
     """The tag at a position of a tag file."""
-    offset = library.offset()
-    _ask("lookup", Asked(tag_file=tags, positions=[at]), *lend(tags), position(at), offset)
-    return bytes(flat(tags)[offset.value : offset.value + TAG_LENGTH])
+    (file, length), offset = lend(tags), library.offset()
+    _ask("lookup", Asked(tag_file=file, positions=[at]), file, length, position(at), offset)
+    return file[offset.value : offset.value + TAG_LENGTH]
 
 
 def read(tag) -> Tag:

@@ -64,19 +64,9 @@ def ask(name: str, *arguments) -> Tuple[Kind, List[int]]:
     return Kind(kind), numbers
 
 
-def flat(data):
-    """Bytes, or a view of them that lies in one piece."""
-    if isinstance(data, bytes):
-        return data
-    view = memoryview(data)
-    return view.cast("B") if view.c_contiguous and view.nbytes else view.tobytes()
-
-
 def lend(data) -> tuple:
-    """Bytes to be read, and how many. What can be is lent as it lies; ctypes cannot lend a view that is read-only."""
-    data = flat(data)
-    if isinstance(data, memoryview):
-        data = data.tobytes() if data.readonly else (ctypes.c_uint8 * data.nbytes).from_buffer(data)
+    """Bytes to be read, and how many. What is not bytes is copied: a view may lie in pieces, and ctypes cannot lend all views."""
+    data = data if isinstance(data, bytes) else memoryview(data).tobytes()
     return data, len(data)
 
 

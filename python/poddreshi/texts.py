@@ -57,7 +57,7 @@ class Row(NamedTuple):
     cells: List[str]
 
 
-def lines_of(data: bytes) -> Tuple[List[str], List[Fault]]:
+def _lines_of(data: bytes) -> Tuple[List[str], List[Fault]]:
     """The lines of a text in UTF-8; a line that is not is a fault, and is taken as empty."""
     lines, faults = [], []
     for number, line in enumerate(data.replace(b"\r\n", b"\n").replace(b"\r", b"\n").split(b"\n"), 1):
@@ -69,7 +69,7 @@ def lines_of(data: bytes) -> Tuple[List[str], List[Fault]]:
     return lines, faults
 
 
-def uncommented(line: str) -> str:
+def _uncommented(line: str) -> str:
     """The line without its comment: from a # that begins a word, outside quotes."""
     line = line.replace("\xa0", " ")
     comment = next((found for found in _QUOTED_OR_COMMENT.finditer(line) if found[1]), None)
@@ -106,9 +106,10 @@ def _header(line: List[str], delimiter: str) -> List[str]:
         return []
 
 
-def _csv_rows(lines: List[str], columns: Sequence[str], wanted: int) -> Optional[Tuple[List[Row], List[Fault]]]:
-    """The rows of CSV in the order of `columns`, or None where the first line is no header with the first `wanted` of them."""
-    start = next((at for at, line in enumerate(lines) if uncommented(line)), len(lines))
+def _csv_rows(lines: List[str], columns: Sequence[str], wanted: int, faults: List[Fault]) -> Optional[List[Row]]:
+    """The rows of CSV in the order of `columns`, or None where the first line is no header with the first `wanted` of them.
+    What is wrong is added to the faults."""
+    start = next((at for at, line in enumerate(lines) if _uncommented(line)), len(lines))
     for delimiter in ",;\t":
         header = _header(lines[start : start + 1], delimiter)
         if all(column in header for column in columns[:wanted]):
@@ -117,12 +118,12 @@ def _csv_rows(lines: List[str], columns: Sequence[str], wanted: int) -> Optional
         return None
     places = [header.index(column) if column in header else None for column in columns]
     kept = ["\n" if line.lstrip().startswith("#") else line + "\n" for line in lines[start + 1 :]]
-    rows, faults, reader = [], [], csv.reader(kept, delimiter=delimiter, strict=True)
+    rows, reader = [], csv.reader(kept, delimiter=delimiter, strict=True)
     while True:
         try:
             cells = next(reader)
         except StopIteration:
-            return rows, faults
+            return rows
         except csv.Error as error:
             faults.append(Fault(start + 1 + reader.line_num, f"is no line of CSV: {error}"))
             continue
@@ -134,13 +135,10 @@ def _csv_rows(lines: List[str], columns: Sequence[str], wanted: int) -> Optional
 def read_rows(data: bytes, columns: Sequence[str], wanted: int, split: Callable, take: Callable) -> Tuple[list, List[Fault]]:
     """What `take` makes of each row, and the rows of which it makes nothing. They are those of CSV, or of lines that `split`
     makes cells of."""
-    lines, faults = lines_of(data)
-    table = _csv_rows(lines, columns, wanted)
-    if table is None:
-        rows = [Row(number, split(line)) for number, line in enumerate(map(uncommented, lines), 1) if line]
-    else:
-        rows, faults = table[0], faults + table[1]
-    taken = []
+    lines, faults = _lines_of(data)
+    rows, taken = _csv_rows(lines, columns, wanted, faults), []
+    if rows is None:
+        rows = [Row(number, split(line)) for number, line in enumerate(map(_uncommented, lines), 1) if line]
     for row in rows:
         try:
             taken.append(take(row))
