@@ -7,6 +7,7 @@ from typing import Dict, FrozenSet, List, NamedTuple, Optional, Sequence, Tuple
 
 from .axes import Axis, marks
 from .calls import Tree
+from .figures import END_LIMIT
 from .given import Given, shared_minutes
 from .svg import Drawing, width
 from .times import length_words
@@ -27,7 +28,7 @@ class Scene(NamedTuple):
     shown: Sequence[int]
     ends: Optional[Tuple[int, int]] = None
     chain: Optional[Sequence[int]] = None
-    span: Optional[Tuple[int, int]] = None  # minutes to which the picture is cut
+    span: Tuple[int, int] = (0, END_LIMIT)  # minutes to which the picture is cut
     chart: float = 1000  # width of the bars' part
 
 
@@ -81,8 +82,7 @@ def draw(scene: Scene) -> str:
     drawing.text(MARGIN, 52, _subtitle(scene), 13, GREY, wide - 2 * MARGIN)
     shown, marked = frozenset(scene.shown), frozenset((*(scene.ends or ()), *(scene.chain or ())))
     for positions in _panels(scene, rows):
-        start, end = scene.span or (0, max(window.end for window in scene.plan.windows))
-        axis = Axis([scene.plan.windows[at] for at in positions], start, end, left, right)
+        axis = Axis([scene.plan.windows[at] for at in positions], *scene.span, left, right)
         panel = Panel({position: at for at, position in enumerate(positions)}, axis, top + AXIS, row, shown, marked)
         _bands(drawing, scene, panel, wide)
         _axis(drawing, scene, panel)

@@ -1,22 +1,20 @@
 """draw: a plan as a picture."""
-from typing import Optional, Tuple
+from typing import Tuple
 
 from .. import calls
 from ..commandline import NAMES, ORIGIN, OUTPUT, PLAN, command, given, option, word
 from ..failures import Mistake
+from ..figures import END_LIMIT
 from ..given import Given
 from ..pictures import Scene, draw
 from ..replies import Reply
 
 
-def _span(args, plan: Given) -> Optional[Tuple[int, int]]:
-    """The minutes that are asked for, or None for all."""
-    if args.since is None and args.until is None:
-        return None
+def _span(args, plan: Given) -> Tuple[int, int]:
+    """The minutes that are asked for."""
     try:
         start = 0 if args.since is None else plan.clock.offset(args.since)
-        last = max((window.end for window in plan.windows), default=0)
-        end = max(last, start + 1) if args.until is None else plan.clock.offset(args.until)
+        end = max(END_LIMIT, start + 1) if args.until is None else plan.clock.offset(args.until)
     except ValueError as error:
         raise Mistake(str(error)) from None
     if start >= end:
@@ -54,10 +52,9 @@ def _draw(args) -> Reply:
         chain = calls.chain(plan.file, *ends).positions
         near = {tree.component_of[end] for end in ends}
         shown = [at for at in shown if args.whole or tree.component_of[at] in near]
-    span = _span(args, plan)
-    if span:
-        shown = [at for at in shown if plan.windows[at].offset < span[1] and plan.windows[at].end > span[0]]
-    return Reply(content=draw(Scene(plan, tree, shown, ends, chain, span)).encode())
+    start, end = _span(args, plan)
+    shown = [at for at in shown if plan.windows[at].offset < end and plan.windows[at].end > start]
+    return Reply(content=draw(Scene(plan, tree, shown, ends, chain, (start, end))).encode())
 
 
 COMMANDS = [_draw]
