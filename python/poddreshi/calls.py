@@ -5,7 +5,7 @@ A plan, a tag and a tag file are bytes, a bytearray or a memoryview. Everything 
 from typing import NamedTuple, Optional, Tuple
 
 from . import library
-from .figures import PLAN_NUMBER_LIMIT, TAG, TAG_LENGTH, WINDOWS_LIMIT
+from .figures import PLAN_NUMBER_LIMIT, TAG, TAG_FIELDS, TAG_LENGTH, WINDOWS_LIMIT
 from .library import Kind, lend, position, room, table
 from .refusals import Asked, refusal
 from .wording import counted
@@ -106,10 +106,7 @@ class Tag(NamedTuple):
     last_rank: int
 
     def __str__(self) -> str:
-        return (
-            f"plan {self.plan}, component {self.component}, depth {self.depth}, rank {self.rank}, "
-            f"rank of the last {self.last_rank}"
-        )
+        return ", ".join(f"{name} {field}" for name, field in zip(("plan", *TAG_FIELDS[1:]), self))
 
 
 def _ask(name: str, asked: Asked, *arguments) -> Tuple[Kind, list]:

@@ -172,9 +172,9 @@ def _answer(commands: Sequence[Command], words: Optional[Sequence[str]]) -> int:
     files.write(getattr(args, "output", None), reply.encoded(getattr(args, "form", "text")))
     for fault in reply.faults:
         files.say(fault)
-    if reply.status == failures.OTHERWISE and not getattr(args, "exit_code", False):
-        return failures.ANSWERED
-    return reply.status
+    if reply.refused or reply.faults:
+        return failures.REFUSED
+    return failures.OTHERWISE if reply.otherwise and getattr(args, "exit_code", False) else failures.ANSWERED
 
 
 def main(commands: Sequence[Command], words: Optional[Sequence[str]] = None) -> int:

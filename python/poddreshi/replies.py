@@ -4,8 +4,6 @@ import io
 import json
 from typing import NamedTuple, Sequence
 
-from .failures import ANSWERED
-
 
 class Reply(NamedTuple):
     """An answer in words, as a table and as data. What has one form alone has it as bytes."""
@@ -15,8 +13,9 @@ class Reply(NamedTuple):
     rows: Sequence[Sequence] = ()
     data: object = None
     content: bytes = b""
-    status: int = ANSWERED  # OTHERWISE for "no chain" and "different", REFUSED where a part was refused
-    faults: Sequence[str] = ()  # the words of what was refused
+    otherwise: bool = False  # it is "no chain" or "different"
+    refused: bool = False  # it is itself a refusal
+    faults: Sequence[str] = ()  # the words of parts that were refused
 
     def encoded(self, form: str) -> bytes:
         if self.content:

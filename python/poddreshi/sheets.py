@@ -2,7 +2,6 @@
 from typing import List, NamedTuple, Optional, Sequence, Tuple, Union
 
 from . import calls
-from .failures import ANSWERED, OTHERWISE, REFUSED
 from .given import Given, shared_minutes
 from .replies import Reply, aligned
 from .texts import Fault, Faulty, Row, clean, read_rows, words_of
@@ -129,6 +128,5 @@ def _data(sheet: Sheet) -> dict:
 
 
 def reply(sheet: Sheet, source: str) -> Reply:
-    status = OTHERWISE if any(trip.chain is None for trip in sheet.trips) else ANSWERED
-    faults = [f"{source}, {fault}" for fault in sheet.faults]
-    return Reply(_text(sheet), HEADER, _csv(sheet), _data(sheet), status=REFUSED if faults else status, faults=faults)
+    faults, apart = [f"{source}, {fault}" for fault in sheet.faults], any(trip.chain is None for trip in sheet.trips)
+    return Reply(_text(sheet), HEADER, _csv(sheet), _data(sheet), otherwise=apart, faults=faults)

@@ -3,7 +3,6 @@ from typing import Optional, Sequence, Tuple
 
 from .. import calls, files
 from ..commandline import NAMES, ORIGIN, PLAN, command, exit_code, forms, given, number, once, word
-from ..failures import ANSWERED, OTHERWISE
 from ..figures import PLAN_LIMIT
 from ..given import Given
 from ..replies import Reply, aligned
@@ -43,8 +42,8 @@ def _chain(args) -> Reply:
         "handovers": found.handovers.count,
         "chain": None if found.positions is None else [plan.data(position) for position in positions],
     }
-    status = OTHERWISE if found.positions is None else ANSWERED
-    return Reply(_windows_text(plan, positions, str(found)), ("step", *_COLUMNS), rows, data, status=status)
+    text = _windows_text(plan, positions, str(found))
+    return Reply(text, ("step", *_COLUMNS), rows, data, otherwise=found.positions is None)
 
 
 @command(
@@ -109,7 +108,7 @@ def _same(args) -> Reply:
         words.append(f"windows {pair[0]} and {pair[1]} overlap in the {there} plan and not in the {elsewhere}")
         data.update(position=pair[0], other=pair[1], overlap_in=there)
     row = ("different", "; ".join(words), *pair)
-    return Reply(": ".join(row[:2]), header, [row], data, status=OTHERWISE)
+    return Reply(": ".join(row[:2]), header, [row], data, otherwise=True)
 
 
 COMMANDS = [_chain, _neighbours, _reach, _same]

@@ -3,7 +3,7 @@ import subprocess
 
 from .. import files, places, texts
 from ..commandline import NAMES, ORIGIN, OUTPUT, PLAN, command, forms, given, number, option, reading, word
-from ..failures import REFUSED, Failure
+from ..failures import Failure
 from ..figures import PLAN_LIMIT, PLAN_NUMBER_LIMIT, TEXT_LIMIT
 from ..refusals import Asked, refusal
 from ..replies import Reply
@@ -41,7 +41,7 @@ def _list(args) -> Reply:
         if args.form != "text":
             raise refusal(first[0], 0, first[1], Asked(plans=[file]))
         args.output = None  # the line that paper 01 fixes is for standard output, and a file stays as it was
-        return Reply(text, status=REFUSED)
+        return Reply(text, refused=True)
     data = dict(zip(("plan", "windows", "components"), first), tree=[dict(zip(_COLUMNS, row)) for row in rows])
     return Reply(text, _COLUMNS, rows, data)
 

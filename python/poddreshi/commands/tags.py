@@ -4,7 +4,7 @@ from typing import Optional
 
 from .. import calls, files
 from ..commandline import OUTPUT, PLAN, command, exit_code, forms, number, once, option, word
-from ..failures import ANSWERED, OTHERWISE, REFUSED, Failure, Mistake
+from ..failures import Failure, Mistake
 from ..figures import PLAN_LIMIT, TAG_FIELDS, TAG_LENGTH, TAGS_LIMIT
 from ..refusals import Refused
 from ..replies import Reply, aligned
@@ -100,8 +100,8 @@ def _count(args) -> Reply:
 def _counted(answer: calls.Handovers, first: Optional[int] = None, second: Optional[int] = None) -> Reply:
     named = {} if first is None else {"first": first, "second": second}
     row = [*named.values(), str(answer) if answer.count is None else answer.count]
-    status = OTHERWISE if answer.count is None else ANSWERED
-    return Reply(str(answer), (*named, "handovers"), [row], {**named, "handovers": answer.count}, status=status)
+    data = {**named, "handovers": answer.count}
+    return Reply(str(answer), tuple(data), [row], data, otherwise=answer.count is None)
 
 
 def _count_all(tags: bytes, first: int) -> Reply:
@@ -118,10 +118,8 @@ def _count_all(tags: bytes, first: int) -> Reply:
         shown.append((str(second), words))
         data.append(row)
         rows.append((first, second, words if row.get("handovers") is None else row["handovers"]))
-    joined = all(row.get("handovers") is not None for row in data)
-    status = REFUSED if faults else ANSWERED if joined else OTHERWISE
-    data = {"first": first, "counts": data}
-    return Reply(aligned(shown, right=(0,)), ("first", "second", "handovers"), rows, data, status=status, faults=faults)
+    header, apart = ("first", "second", "handovers"), any(row.get("handovers") is None for row in data)
+    return Reply(aligned(shown, right=(0,)), header, rows, {"first": first, "counts": data}, otherwise=apart, faults=faults)
 
 
 COMMANDS = [_tags, _tag, _explain, _count]
