@@ -1,14 +1,11 @@
 """The names of a plan's windows, from the plan's own text or from lines of a position and a name."""
-import re
 from typing import List, Optional
 
 from .failures import Mistake
 from .plans import Window
 from .texts import Faulty, Row, clean, parse, read_rows, unquoted
-from .times import Clock
+from .times import NUMBER, Clock
 from .wording import cited, counted
-
-_POSITION = re.compile(r"\d{1,20}", re.ASCII)
 
 
 class Names(list):
@@ -20,7 +17,7 @@ class Names(list):
 
     def position(self, word: str) -> int:
         """The position that a word of the command means: a number, or the name of one window."""
-        if _POSITION.fullmatch(word):
+        if NUMBER.fullmatch(word):
             return int(word)
         found = [position for position, name in enumerate(self) if name == word]
         if len(found) == 1:
@@ -53,7 +50,7 @@ def _of_lines(data: bytes, windows: List[Window]) -> Names:
 
 
 def _put(names: Names, seen: dict, row: Row) -> None:
-    if len(row.cells) != 2 or not _POSITION.fullmatch(row.cells[0]):
+    if len(row.cells) != 2 or not NUMBER.fullmatch(row.cells[0]):
         whose = "the file is the text of just this plan (which takes --origin where it has dates)"
         raise ValueError(f"a line of names has a position and a name, unless {whose}")
     position = int(row.cells[0])
