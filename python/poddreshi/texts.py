@@ -171,17 +171,14 @@ def parse(data: bytes, clock: Clock) -> Tuple[List[Entry], List[Fault]]:
 def _refusals(entries: List[Entry], file: bytes) -> Iterator[Fault]:
     """What the library refuses, asked of each window alone and then of its order, so that one fault hides no other."""
     for position, entry in enumerate(entries):
-        in_order = [_faultless(each.window) for each in entries[max(position - 1, 0) : position + 1]]
+        pair = [each.window.offset for each in entries[max(position - 1, 0) : position + 1]]
+        # Two windows of which nothing can be refused but that one begins before the other.
+        in_order = [Window(min(offset - min(pair), END_LIMIT - LENGTH_LEAST), LENGTH_LEAST) for offset in pair]
         for windows in ([entry.window], in_order):
             try:
                 calls.validate(pack(0, windows))
             except Refused as no:
                 yield Fault(entry.line, str(refusal(no.number, 0, position, Asked(plans=[file]))))
-
-
-def _faultless(window: Window) -> Window:
-    """A window of which nothing can be refused but its place among others."""
-    return Window(min(window.offset, END_LIMIT - LENGTH_LEAST), LENGTH_LEAST)
 
 
 def make(number: int, data: bytes, clock: Clock, sort: bool = False, empty: bool = False) -> Tuple[bytes, List[Entry]]:

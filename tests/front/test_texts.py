@@ -93,6 +93,11 @@ class Faults(unittest.TestCase):
             "line 2: refused by question 6: window 1 of the plan begins at 5, earlier than the window before it, at 10,000,000",
         ])
 
+    def test_order_of_ends_that_are_all_too_late(self):
+        told = [fault[:29] for fault in faults("20000000 1\n15000000 1\n4294967295 1\n4294967294 1\n")]
+        asked = [(1, 5), (2, 5), (2, 6), (3, 5), (4, 5), (4, 6)]
+        self.assertEqual(told, [f"line {line}: refused by question {number}" for line, number in asked])
+
     def test_dates(self):
         told = faults("2025-12-31 1\n2026-02-30 1\n2026-01-01 24:00 1\n2026-01-01 1h30\n", ORIGIN)
         self.assertEqual(told, [
