@@ -189,11 +189,11 @@ def _colour(scene: Scene, position: int) -> str:
 
 
 def _bar(drawing: Drawing, scene: Scene, panel: Panel, position: int) -> None:
-    window, marked = scene.plan.windows[position], position in panel.marked
+    window, parent, middle = scene.plan.windows[position], scene.tree.parents[position], panel.middle(position)
+    marked = position in panel.marked
+    strong = marked or scene.ends is None
     left, right = panel.axis.place(window.offset), panel.axis.place(window.end)
-    wide = max(right - left, BAR_LEAST)
-    high = panel.row * 0.62
-    parent = scene.tree.parents[position]
+    wide, high = max(right - left, BAR_LEAST), panel.row * 0.62
     told = (
         f"{scene.plan.names.label(position)}: {scene.plan.interval(position)}, component {scene.tree.component_of[position]}, "
         f"depth {scene.tree.depths[position]}, {'a root' if parent == position else f'parent {parent}'}"
@@ -203,25 +203,17 @@ def _bar(drawing: Drawing, scene: Scene, panel: Panel, position: int) -> None:
         "rect",
         title=told,
         x=min(left, panel.axis.right - wide),
-        y=panel.middle(position) - high / 2,
+        y=middle - high / 2,
         width=wide,
         height=high,
         rx=2 if panel.row > 16 else 1,
         fill=_colour(scene, position),
-        fill_opacity=1 if marked or scene.ends is None else 0.35,
+        fill_opacity=1 if strong else 0.35,
         **outline,
     )
-    size = _font(panel.row)
-    drawing.text(
-        panel.axis.left - 10,
-        panel.middle(position) + size / 3,
-        _label(scene, position),
-        size,
-        INK if marked or scene.ends is None else GREY,
-        panel.axis.left - 10 - MARGIN,
-        "end",
-        bold=marked,
-    )
+    size, room = _font(panel.row), panel.axis.left - 10 - MARGIN
+    colour = INK if strong else GREY
+    drawing.text(MARGIN + room, middle + size / 3, _label(scene, position), size, colour, room, "end", bold=marked)
 
 
 def _handovers(drawing: Drawing, scene: Scene, panel: Panel) -> None:
