@@ -6,7 +6,7 @@ _FOLDERS = Path(__file__).resolve().parents
 
 
 def _stated() -> str:
-    """As the header says that the package stands beside, in a checkout or in an installed tree, or else as pip has recorded it."""
+    """As the header says that the package stands beside, in a checkout or an installed tree, or else as pip has recorded it."""
     for root in (_FOLDERS[2], _FOLDERS[3]):  # of python/poddreshi and of lib/poddreshi/poddreshi
         header = root / "include" / "poddreshi.h"
         if header.is_file():

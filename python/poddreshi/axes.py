@@ -1,5 +1,4 @@
 """A time axis: minutes to places on a sheet, with empty stretches cut out, and the marks that it carries."""
-import itertools
 from datetime import datetime
 from typing import Iterator, List, NamedTuple, Sequence, Tuple
 
@@ -7,7 +6,8 @@ from .plans import Window
 from .times import MINUTE, Clock
 
 HOUR, DAY = 60, 24 * 60
-_STEPS = (1, 2, 5, 10, 15, 30, HOUR, 2 * HOUR, 3 * HOUR, 6 * HOUR, 12 * HOUR, DAY, 2 * DAY, 7 * DAY, 14 * DAY)
+_DAYS = (1, 2, 7, 14, 20, 50, 100, 200, 500, 1000, 2000)
+_STEPS = (1, 2, 5, 10, 15, 30, HOUR, 2 * HOUR, 3 * HOUR, 6 * HOUR, 12 * HOUR, *(DAY * days for days in _DAYS))
 _MONTHS = (1, 2, 3, 6, 12, 24, 60, 120, 240)
 _MONTH = 31 * DAY  # at most
 CUT = 26  # pixels of a stretch that is cut out
@@ -28,19 +28,11 @@ class Axis:
     """Minutes from the least to the greatest that the windows cover, between two places on the sheet."""
 
     def __init__(self, windows: Sequence[Window], start: int, end: int, left: float, right: float):
-        self.left, self.right = left, right
         covered = _covered(windows, start, end)
+        self.left, self.right, self.start, self.end = left, right, covered[0][0], covered[-1][1]
         self.stretches = _laid_out(covered, left, right)
-        first = next(each for each in self.stretches if not each.cut)
+        first = self.stretches[0]  # which no cut is
         self.scale = (first.right - first.left) / (first.end - first.start)
-
-    @property
-    def start(self) -> int:
-        return self.stretches[0].start
-
-    @property
-    def end(self) -> int:
-        return self.stretches[-1].end
 
     def place(self, minute: float) -> float:
         """Where a minute stands; one before or after the axis stands at its end."""
@@ -60,7 +52,7 @@ def _covered(windows: Sequence[Window], start: int, end: int) -> List[Tuple[int,
             found[-1] = (found[-1][0], max(found[-1][1], finish))
         else:
             found.append((begin, finish))
-    return found or [(start, end)]
+    return found
 
 
 def _laid_out(covered: List[Tuple[int, int]], left: float, right: float) -> List[Stretch]:
@@ -107,25 +99,19 @@ def marks(axis: Axis, clock: Clock) -> List[Mark]:
             minutes.insert(0, stretch.start)
         for minute in minutes:
             if axis.place(minute) - free >= _APART:
-                found.append(_mark(minute, clock, date))
-                free, date = axis.place(minute), found[-1].date or date
+                day, label = ("", f"{minute:,}") if clock.origin is None else clock.show(minute).split(" ")
+                found.append(Mark(minute, label, day if day != date else ""))
+                free, date = axis.place(minute), day
     return found
-
-
-def _mark(minute: int, clock: Clock, date: str) -> Mark:
-    if clock.origin is None:
-        return Mark(minute, f"{minute:,}", "")
-    day, time = clock.show(minute).split(" ")
-    return Mark(minute, time, day if day != date else "")
 
 
 def _minutes(stretch: Stretch, scale: float, clock: Clock) -> Iterator[int]:
     """Round minutes, or round times of the calendar."""
     least = _APART / scale
-    if clock.origin is not None and least > _STEPS[-1]:
+    if clock.origin is not None and least > 14 * DAY:
         yield from _months(stretch, least, clock)
         return
-    step = _step(least)
+    step = next(step for step in _STEPS if step >= least)
     # With an origin, steps are counted from a Monday at midnight long ago.
     base = 0 if clock.origin is None else (clock.origin - datetime.min) // MINUTE
     minute = -(-(stretch.start + base) // step) * step - base
@@ -134,17 +120,8 @@ def _minutes(stretch: Stretch, scale: float, clock: Clock) -> Iterator[int]:
         minute += step
 
 
-def _step(least: float) -> int:
-    step = next((step for step in _STEPS if step >= least), 0)
-    if not step:
-        step, factors = 20 * DAY, itertools.cycle((2.5, 2, 2))  # 20, 50, 100, 200 days and so on
-        while step < least:
-            step = int(step * next(factors))
-    return step
-
-
 def _months(stretch: Stretch, least: float, clock: Clock) -> Iterator[int]:
-    step = next((step for step in _MONTHS if step * _MONTH >= least), _MONTHS[-1])
+    step = next(step for step in _MONTHS if step * _MONTH >= least)
     start = clock.date(stretch.start)
     month = (12 * start.year + start.month - 1) // step * step
     while month < 12 * 9999:

@@ -19,10 +19,6 @@ HOW_LONG = "some three minutes on two processors the first time, and less after 
 STATIC = "libpoddreshi.a"
 
 
-def say(words: str) -> None:
-    print(f"poddreshi: {words}", file=sys.stderr, flush=True)
-
-
 def ensure(root: Path) -> Path:
     """The folder of what is built, which is made where it is missing."""
     done = places.built(root)
@@ -56,13 +52,13 @@ def _alone(lock: Path) -> Iterator[None]:
         try:
             fcntl.flock(held, fcntl.LOCK_EX | fcntl.LOCK_NB)
         except BlockingIOError:
-            say("another command is building the library; waiting for it")
+            files.say("poddreshi: another command is building the library; waiting for it")
             fcntl.flock(held, fcntl.LOCK_EX)
         yield
 
 
 def _make(root: Path, done: Path) -> None:
-    say(f"proving and building the library: {HOW_LONG}")
+    files.say(f"poddreshi: proving and building the library: {HOW_LONG}")
     _run(root, ["rt", "staticlib", "poddreshi"], "the library is not proved, so it was not built")
     _run(root, ["rt", "check", "listing"], "the listing program is not proved, so it was not built")
     older = list(done.parent.iterdir()) if done.parent.is_dir() else []
@@ -76,7 +72,7 @@ def _make(root: Path, done: Path) -> None:
         _run(root, [*_compiler(), *linked], "the shared library could not be linked")
     for folder in older:
         shutil.rmtree(folder, ignore_errors=True)
-    say("built")
+    files.say("poddreshi: built")
 
 
 def _run(root: Path, words: List[str], otherwise: str) -> None:

@@ -5,8 +5,8 @@ A plan, a tag and a tag file are bytes, a bytearray or a memoryview. Everything 
 from typing import NamedTuple, Optional, Tuple
 
 from . import library
-from .figures import PLAN_NUMBER_LIMIT, TAG, TAG_LENGTH, WINDOWS_LIMIT
-from .library import Kind, flat, lend, position, room, table
+from .figures import PLAN_NUMBER_LIMIT, TAG, TAG_FIELDS, TAG_LENGTH, WINDOWS_LIMIT
+from .library import Kind, lend, position, room, table
 from .refusals import Asked, refusal
 from .wording import counted
 
@@ -106,10 +106,7 @@ class Tag(NamedTuple):
     last_rank: int
 
     def __str__(self) -> str:
-        return (
-            f"plan {self.plan}, component {self.component}, depth {self.depth}, rank {self.rank}, "
-            f"rank of the last {self.last_rank}"
-        )
+        return ", ".join(f"{name} {field}" for name, field in zip(("plan", *TAG_FIELDS[1:]), self))
 
 
 def _ask(name: str, asked: Asked, *arguments) -> Tuple[Kind, list]:
@@ -185,9 +182,9 @@ def pair_at(tags, first: int, second: int) -> Handovers:
 
 def lookup(tags, at: int) -> bytes:
     """The tag at a position of a tag file."""
-    offset = library.offset()
-    _ask("lookup", Asked(tag_file=tags, positions=[at]), *lend(tags), position(at), offset)
-    return bytes(flat(tags)[offset.value : offset.value + TAG_LENGTH])
+    (file, length), offset = lend(tags), library.offset()
+    _ask("lookup", Asked(tag_file=file, positions=[at]), file, length, position(at), offset)
+    return file[offset.value : offset.value + TAG_LENGTH]
 
 
 def read(tag) -> Tag:

@@ -30,28 +30,6 @@ words."""
 WIDTH = min(shutil.get_terminal_size().columns, 100)  # of the help
 
 
-class Command(NamedTuple):
-    name: str
-    summary: str
-    arguments: Callable[["Parser"], object]
-    run: Callable[[argparse.Namespace], Reply]
-    examples: Sequence[str]
-    details: str = ""
-    needs_library: bool = True
-
-
-class _Tell(argparse.Action):
-    """Help and version go the way of every output, so that a full disk is seen."""
-
-    def __init__(self, *words, tells, **options):
-        super().__init__(*words, nargs=0, default=argparse.SUPPRESS, **options)
-        self.tells = tells
-
-    def __call__(self, parser, namespace, values, option_string=None):
-        files.write(None, self.tells(parser).encode())
-        raise SystemExit(failures.ANSWERED)
-
-
 class Parser(argparse.ArgumentParser):
     def __init__(self, **options):
         super().__init__(
@@ -60,35 +38,32 @@ class Parser(argparse.ArgumentParser):
             formatter_class=lambda prog: argparse.RawDescriptionHelpFormatter(prog, max_help_position=26, width=WIDTH),
             **options,
         )
-        self.add_argument("-h", "--help", action=_Tell, tells=Parser.format_help, help="show this and exit")
+        self.add_argument("-h", "--help", action="help", help="show this and exit")
 
     def error(self, message: str):
         raise Mistake(f"{message}; see {self.prog} --help")
 
-    def plan(self) -> None:
-        self.add_argument("plan", metavar="PLAN", help="a plan file")
+    def _print_message(self, message: str, file=None) -> None:
+        """Help and version go the way of every output, so that a full disk is seen."""
+        files.write(None, message.encode())
 
-    def output(self) -> None:
-        self.add_argument("-o", "--output", metavar="FILE", help="write to a file, which is replaced when all is there")
 
-    def forms(self, *others: str) -> None:
-        """The forms of an answer beside text."""
-        group = self.add_mutually_exclusive_group()
-        for form in ("csv", "json", *others):
-            words = f"answer as {form.upper()}"
-            group.add_argument(f"--{form}", dest="form", action="store_const", const=form, default="text", help=words)
-        self.output()
+Argument = Callable[[Parser], object]  # adds an argument or some
 
-    def exit_code(self, answer: str) -> None:
-        self.add_argument("--exit-code", action="store_true", help=f'exit with 4 where the answer is "{answer}"')
 
-    def origin(self) -> None:
-        self.add_argument("--origin", metavar="DATE", type=date, help="the date of minute 0: 2026-01-01, or with a time")
+class Command(NamedTuple):
+    run: Callable[[argparse.Namespace], Reply]
+    name: str
+    summary: str
+    arguments: Sequence[Argument]
+    examples: Sequence[str]
+    details: str = ""
+    usage: Optional[str] = None
 
-    def names(self) -> None:
-        words = "show names: the plan's own text, or lines of a position and a name"
-        self.add_argument("--names", metavar="FILE", help=words)
-        self.origin()
+
+def command(*words, **options) -> Callable[[Callable], Command]:
+    """Makes the function below it a subcommand."""
+    return lambda run: Command(run, *words, **options)
 
 
 def date(words: str) -> datetime:
@@ -96,6 +71,38 @@ def date(words: str) -> datetime:
         return times.date(words)
     except ValueError as error:
         raise argparse.ArgumentTypeError(str(error)) from None
+
+
+def word(name: str, help: str, metavar: str = "", **options) -> Argument:
+    """A word of the command, which the help has in capitals."""
+    return lambda parser: parser.add_argument(name, metavar=metavar or name.upper(), help=help, **options)
+
+
+def option(*names: str, **options) -> Argument:
+    return lambda parser: parser.add_argument(*names, **options)
+
+
+def forms(*others: str) -> Argument:
+    """The forms of an answer beside text, and where it goes."""
+
+    def add(parser: Parser) -> None:
+        group = parser.add_mutually_exclusive_group()
+        for form in ("csv", "json", *others):
+            words = f"answer as {form.upper()}"
+            group.add_argument(f"--{form}", dest="form", action="store_const", const=form, default="text", help=words)
+        OUTPUT(parser)
+
+    return add
+
+
+def exit_code(answer: str) -> Argument:
+    return option("--exit-code", action="store_true", help=f'exit with 4 where the answer is "{answer}"')
+
+
+PLAN = word("plan", "a plan file")
+OUTPUT = option("-o", "--output", metavar="FILE", help="write to a file, which is replaced when all is there")
+ORIGIN = option("--origin", metavar="DATE", type=date, help="the date of minute 0: 2026-01-01, or with a time")
+NAMES = option("--names", metavar="FILE", help="show names: the plan's own text, or lines of a position and a name")
 
 
 def number(words: str, limit: Optional[int] = None, thing: str = "a position") -> int:
@@ -112,7 +119,7 @@ def given(args: argparse.Namespace) -> Given:
     once(args.plan, args.names)
     file = files.read(args.plan, figures.PLAN_LIMIT)
     accepted, windows, clock = calls.validate(file), windows_of(file), Clock(args.origin)
-    named = names.unnamed(windows)
+    named = names.Names([""] * len(windows))
     if args.names is not None:
         with reading(args.names):
             named = names.read(files.read_whole(args.names, figures.TEXT_LIMIT, "file of names"), windows, clock)
@@ -130,7 +137,7 @@ def reading(name: str) -> Iterator[None]:
     try:
         yield
     except Faulty as bad:
-        bad.source = files.STANDARD_INPUT if name == "-" else name
+        bad.source = files.called(name)
         raise
 
 
@@ -140,41 +147,34 @@ def _filled(words: str) -> str:
 
 def parser(commands: Sequence[Command]) -> Parser:
     top = Parser(prog="poddreshi", description=_filled(DESCRIPTION), epilog=_filled(STATUS))
-    version = f"poddreshi {__version__}\n"
-    top.add_argument("--version", action=_Tell, tells=lambda _: version, help="show the version and exit")
-    below = top.add_subparsers(metavar="COMMAND", dest="command", required=True, parser_class=Parser)
-    for command in commands:
+    top.add_argument("--version", action="version", version=f"poddreshi {__version__}", help="show the version and exit")
+    below = top.add_subparsers(metavar="COMMAND", dest="command", required=True)
+    for each in commands:
         own = below.add_parser(
-            command.name,
-            help=command.summary,
-            description=_filled(f"{command.summary[0].upper()}{command.summary[1:]}. {command.details}"),
-            epilog="\n  ".join(["examples:", *command.examples]),
+            each.name,
+            help=each.summary,
+            description=_filled(f"{each.summary[0].upper()}{each.summary[1:]}. {each.details}"),
+            epilog="\n  ".join(["examples:", *each.examples]),
+            usage=each.usage,
         )
-        command.arguments(own)
-        own.set_defaults(run=command.run, needs_library=command.needs_library)
+        for add in each.arguments:
+            add(own)
+        own.set_defaults(run=each.run)
     return top
-
-
-def say(line: str) -> None:
-    """A line on standard error. What an input holds is shown, and never obeyed by a terminal."""
-    shown = "".join(each if each.isprintable() else each.encode("unicode_escape").decode() for each in line)
-    with contextlib.suppress(OSError):
-        sys.stderr.write(shown + "\n")
-        sys.stderr.flush()
 
 
 def _answer(commands: Sequence[Command], words: Optional[Sequence[str]]) -> int:
     args = parser(commands).parse_args(words)
     root = places.checkout()
-    if args.needs_library and root and not places.told():
+    if root and not places.told():
         building.ensure(root)
     reply = args.run(args)
     files.write(getattr(args, "output", None), reply.encoded(getattr(args, "form", "text")))
     for fault in reply.faults:
-        say(fault)
-    if reply.status == failures.OTHERWISE and not getattr(args, "exit_code", False):
-        return failures.ANSWERED
-    return reply.status
+        files.say(fault)
+    if reply.refused or reply.faults:
+        return failures.REFUSED
+    return failures.OTHERWISE if reply.otherwise and getattr(args, "exit_code", False) else failures.ANSWERED
 
 
 def main(commands: Sequence[Command], words: Optional[Sequence[str]] = None) -> int:
@@ -184,28 +184,28 @@ def main(commands: Sequence[Command], words: Optional[Sequence[str]] = None) -> 
     try:
         return _answer(commands, words)
     except Refused as no:
-        say(str(no))
+        files.say(str(no))
         return failures.REFUSED
     except Faulty as bad:
         for fault in bad.faults:
-            say(f"{bad.source}, {fault}")
+            files.say(f"{bad.source}, {fault}")
         return failures.REFUSED
     except Mistake as mistake:
-        say(f"poddreshi: {mistake}")
+        files.say(f"poddreshi: {mistake}")
         return failures.MISTAKEN
     except (Failure, LibraryMissing) as failure:
-        say(f"poddreshi: {failure}")
+        files.say(f"poddreshi: {failure}")
         return failures.FAILED
     except OSError as error:
-        say(f"poddreshi: {Failure.of(error.filename or 'the system', error)}")
+        files.say(f"poddreshi: {Failure.of(error.filename or 'the system', error)}")
         return failures.FAILED
     except MemoryError:
-        say("poddreshi: there is too little memory")
+        files.say("poddreshi: there is too little memory")
         return failures.FAILED
     except KeyboardInterrupt:
         return failures.INTERRUPTED
     except Exception:
         if os.environ.get("PODDRESHI_TRACEBACK"):
             raise
-        say("poddreshi: something went wrong that should not have; PODDRESHI_TRACEBACK=1 shows where")
+        files.say("poddreshi: something went wrong that should not have; PODDRESHI_TRACEBACK=1 shows where")
         return failures.FAILED

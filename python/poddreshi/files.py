@@ -8,11 +8,10 @@ import stat
 import sys
 import tempfile
 from pathlib import Path
-from typing import BinaryIO, Iterator, Optional
+from typing import Iterator, Optional
 
 from .failures import Failure
 
-STANDARD_INPUT, STANDARD_OUTPUT = "standard input", "standard output"
 _STREAMS = ("/dev/std", "/dev/fd/", "/proc/")
 _BESIDE = ".poddreshi."  # how the name of a file or folder begins that is not yet whole
 _closed = set()
@@ -30,66 +29,59 @@ def hold_standard_streams() -> None:
         sys.stderr = open(os.devnull, "w", encoding="utf-8")
 
 
-def _read_to(stream: BinaryIO, limit: int) -> bytes:
-    parts, wanted = [], limit + 1
-    while wanted:
-        part = stream.read(wanted)
-        if not part:
-            break
-        parts.append(part)
-        wanted -= len(part)
-    return b"".join(parts)
+def say(line: str) -> None:
+    """A line on standard error. What an input holds is shown, and never obeyed by a terminal."""
+    shown = "".join(each if each.isprintable() else each.encode("unicode_escape").decode() for each in line)
+    with contextlib.suppress(OSError):
+        sys.stderr.write(shown + "\n")
+        sys.stderr.flush()
+
+
+def _standard(place: int) -> int:
+    """A descriptor of its own for a standard stream: some file systems tell of a full disk only when one is closed."""
+    if place in _closed:
+        raise OSError(errno.EBADF, os.strerror(errno.EBADF))
+    return os.dup(place)
+
+
+def called(name: str) -> str:
+    """How an input is called."""
+    return "standard input" if name == "-" else name
 
 
 def read(name: str, limit: int) -> bytes:
     """The file, or standard input for `-`, up to one byte past the limit."""
+    data = bytearray()
     try:
-        if name != "-":
-            with open(name, "rb", buffering=0) as stream:
-                return _read_to(stream, limit)
-        if 0 in _closed:
-            raise OSError(errno.EBADF, os.strerror(errno.EBADF))
-        with open(0, "rb", buffering=0, closefd=False) as stream:
-            return _read_to(stream, limit)
+        with open(_standard(0) if name == "-" else name, "rb", buffering=0) as stream:
+            while part := stream.read(limit + 1 - len(data)):
+                data += part
     except OSError as error:
-        raise Failure.of(STANDARD_INPUT if name == "-" else name, error) from None
-    except ValueError:  # a name with a zero byte
-        raise Failure(f"{name!r} cannot be the name of a file") from None
+        raise Failure.of(called(name), error) from None
+    return bytes(data)
 
 
 def read_whole(name: str, limit: int, thing: str) -> bytes:
     """The same, for an input whose length the library does not judge."""
     data = read(name, limit)
     if len(data) > limit:
-        raise Failure(f"{STANDARD_INPUT if name == '-' else name}: is longer than {limit:,} bytes, so it is no {thing}")
+        raise Failure(f"{called(name)}: is longer than {limit:,} bytes, so it is no {thing}")
     return data
 
 
-def _write_all(descriptor: int, data: bytes) -> None:
+def _write_all(descriptor: int, data: bytes, to_disk: bool = False) -> None:
+    """Writes to the last byte, and closes."""
     rest = memoryview(data)
-    while rest:
-        try:
-            rest = rest[os.write(descriptor, rest) :]
-        except BlockingIOError:  # whoever opened the pipe does not wait for it; we do
-            select.select([], [descriptor], [])
-
-
-def _write_standard_output(data: bytes) -> None:
     try:
-        if 1 in _closed:
-            raise OSError(errno.EBADF, os.strerror(errno.EBADF))
-        _write_all(1, data)
-        # Some file systems tell of a full disk only when a descriptor is closed.
-        os.close(os.dup(1))
-    except OSError as error:
-        raise Failure.of(STANDARD_OUTPUT, error) from None
-
-
-def _allowed(mode: int) -> int:
-    """A mode without what the umask takes away."""
-    mask = os.umask(0)
-    os.umask(mask)
-    return mode & ~mask
+        while rest:
+            try:
+                rest = rest[os.write(descriptor, rest) :]
+            except BlockingIOError:  # whoever opened the pipe does not wait for it; we do
+                select.select([], [descriptor], [])
+        if to_disk:
+            os.fsync(descriptor)
+    finally:
+        os.close(descriptor)
 
 
 def _mode(path: Path) -> int:
@@ -97,19 +89,17 @@ def _mode(path: Path) -> int:
     try:
         return stat.S_IMODE(path.stat().st_mode)
     except FileNotFoundError:
-        return _allowed(0o666)
+        mask = os.umask(0)
+        os.umask(mask)
+        return 0o666 & ~mask
 
 
 def replace(path: Path, data: bytes, mode: Optional[int] = None) -> None:
     """Writes a file beside and renames it, so that the old one stays until the new one is whole."""
     descriptor, beside = tempfile.mkstemp(prefix=_BESIDE, dir=path.parent)
     try:
-        try:
-            _write_all(descriptor, data)
-            os.fchmod(descriptor, _mode(path) if mode is None else mode)
-            os.fsync(descriptor)
-        finally:
-            os.close(descriptor)
+        _write_all(descriptor, data, to_disk=True)
+        os.chmod(beside, _mode(path) if mode is None else mode)
         os.replace(beside, path)
     except BaseException:
         with contextlib.suppress(OSError):
@@ -119,23 +109,16 @@ def replace(path: Path, data: bytes, mode: Optional[int] = None) -> None:
 
 def write(name: Optional[str], data: bytes) -> None:
     """To a file, or to standard output for None and `-`. A pipe or a device is written to as it is."""
-    if name is None or name == "-":
-        _write_standard_output(data)
-        return
     try:
+        if name is None or name == "-":
+            _write_all(_standard(1), data)
         # /dev/stdout may lead to a file that others write to as well, so it is not replaced.
-        if name.startswith(_STREAMS) or os.path.exists(name) and not os.path.isfile(name):
-            descriptor = os.open(name, os.O_WRONLY | os.O_APPEND)
-            try:
-                _write_all(descriptor, data)
-            finally:
-                os.close(descriptor)
+        elif name.startswith(_STREAMS) or os.path.exists(name) and not os.path.isfile(name):
+            _write_all(os.open(name, os.O_WRONLY | os.O_APPEND), data)
         else:
             replace(Path(os.path.realpath(name)), data)
     except OSError as error:
-        raise Failure.of(name, error) from None
-    except ValueError:
-        raise Failure(f"{name!r} cannot be the name of a file") from None
+        raise Failure.of("standard output" if name in (None, "-") else name, error) from None
 
 
 @contextlib.contextmanager

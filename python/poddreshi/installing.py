@@ -22,9 +22,7 @@ Libs: -L${{libdir}} -lpoddreshi
 
 def staged(prefix: str) -> Path:
     """Where the tree is laid down: PREFIX, below DESTDIR where that is set, as for `make install`."""
-    prefix = os.path.abspath(prefix)
-    destination = os.environ.get("DESTDIR")
-    return Path(destination + prefix if destination else prefix)
+    return Path(os.environ.get("DESTDIR", "") + os.path.abspath(prefix))
 
 
 def _single_files(root: Path, built: Path) -> Dict[str, tuple]:

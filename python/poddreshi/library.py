@@ -27,21 +27,9 @@ CALLS = {
 }
 
 
-class Kind(IntEnum):
-    """What the first field of an answer says."""
-
-    REFUSED = 0
-    ACCEPTED = 1
-    BUILT = 2
-    REACH = 3
-    CHAIN = 4
-    NO_CHAIN = 5
-    NEIGHBOURS = 6
-    SAME = 7
-    DIFFERENT = 8
-    HANDOVERS = 9
-    FOUND = 10
-    WRITTEN = 11
+# What the first field of an answer says, from 0.
+_KINDS = "REFUSED ACCEPTED BUILT REACH CHAIN NO_CHAIN NEIGHBOURS SAME DIFFERENT HANDOVERS FOUND WRITTEN"
+Kind = IntEnum("Kind", _KINDS, start=0)
 
 
 class LibraryMissing(OSError):
@@ -76,19 +64,9 @@ def ask(name: str, *arguments) -> Tuple[Kind, List[int]]:
     return Kind(kind), numbers
 
 
-def flat(data):
-    """Bytes, or a view of them that lies in one piece."""
-    if isinstance(data, bytes):
-        return data
-    view = memoryview(data)
-    return view.cast("B") if view.c_contiguous and view.nbytes else view.tobytes()
-
-
 def lend(data) -> tuple:
-    """Bytes to be read, and how many. What can be is lent as it lies; ctypes cannot lend a view that is read-only."""
-    data = flat(data)
-    if isinstance(data, memoryview):
-        data = data.tobytes() if data.readonly else (ctypes.c_uint8 * data.nbytes).from_buffer(data)
+    """Bytes to be read, and how many. What is not bytes is copied: a view may lie in pieces, and ctypes cannot lend all views."""
+    data = data if isinstance(data, bytes) else memoryview(data).tobytes()
     return data, len(data)
 
 

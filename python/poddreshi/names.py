@@ -1,14 +1,11 @@
 """The names of a plan's windows, from the plan's own text or from lines of a position and a name."""
-import re
 from typing import List, Optional
 
 from .failures import Mistake
 from .plans import Window
-from .texts import Fault, Faulty, clean, csv_rows, lines_of, parse, unquoted, uncommented
-from .times import Clock
+from .texts import Faulty, Row, clean, parse, read_rows, unquoted
+from .times import NUMBER, Clock
 from .wording import cited, counted
-
-_POSITION = re.compile(r"\d{1,20}", re.ASCII)
 
 
 class Names(list):
@@ -20,7 +17,7 @@ class Names(list):
 
     def position(self, word: str) -> int:
         """The position that a word of the command means: a number, or the name of one window."""
-        if _POSITION.fullmatch(word):
+        if NUMBER.fullmatch(word):
             return int(word)
         found = [position for position, name in enumerate(self) if name == word]
         if len(found) == 1:
@@ -29,10 +26,6 @@ class Names(list):
             raise Mistake(f"{cited(word)} is the name of {len(found)} windows: {', '.join(map(str, found[:8]))}")
         hint = "a position is a number from 0" + (", or a name" if any(self) else "; names come with --names")
         raise Mistake(f"there is no window {cited(word)}; {hint}")
-
-
-def unnamed(windows: List[Window]) -> Names:
-    return Names([""] * len(windows))
 
 
 def read(data: bytes, windows: List[Window], clock: Clock) -> Names:
@@ -49,30 +42,20 @@ def _of_text(data: bytes, windows: List[Window], clock: Clock) -> Optional[Names
 
 
 def _of_lines(data: bytes, windows: List[Window]) -> Names:
-    lines, faults = lines_of(data)
-    table = csv_rows(lines, ("position", "name"), 2)
-    if table is None:
-        rows = [(number, uncommented(line).split(None, 1)) for number, line in enumerate(lines, 1)]
-    else:
-        rows, faults = [(row.line, row.cells) for row in table[0]], faults + table[1]
-    names, seen = unnamed(windows), {}
-    for line, cells in rows:
-        try:
-            if cells:
-                _put(names, seen, line, cells)
-        except ValueError as error:
-            faults.append(Fault(line, str(error)))
+    names, seen = Names([""] * len(windows)), {}
+    _, faults = read_rows(data, ("position", "name"), 2, lambda line: line.split(None, 1), lambda row: _put(names, seen, row))
     if faults:
         raise Faulty(faults)
     return names
 
 
-def _put(names: Names, seen: dict, line: int, cells: List[str]) -> None:
-    if len(cells) != 2 or not _POSITION.fullmatch(cells[0]):
-        raise ValueError("a line of names has a position and a name, unless the file is the text of just this plan")
-    position = int(cells[0])
+def _put(names: Names, seen: dict, row: Row) -> None:
+    if len(row.cells) != 2 or not NUMBER.fullmatch(row.cells[0]):
+        whose = "the file is the text of just this plan (which takes --origin where it has dates)"
+        raise ValueError(f"a line of names has a position and a name, unless {whose}")
+    position = int(row.cells[0])
     if position >= len(names):
         raise ValueError(f"there is no window {position:,}: the plan has {counted(len(names), 'window')}")
     if position in seen:
         raise ValueError(f"window {position} has its name on line {seen[position]}")
-    names[position], seen[position] = clean(unquoted(cells[1])), line
+    names[position], seen[position] = clean(unquoted(row.cells[1])), row.line

@@ -27,11 +27,9 @@ def _section(sheet: Sheet, trip: Trip, tree: calls.Tree) -> List[str]:
     plan, name = sheet.plan, clean(heading(sheet.plan, trip))
     if trip.chain is None:
         return ["<section>", f'<h2 class="none">{name}</h2>', "</section>"]
-    ends = (trip.present, trip.wanted)
-    shown = sorted(trip.chain)
     # In the order of travel the page tells it; the picture keeps the library's order, from the later window to the earlier.
     chain = trip.chain if trip.chain[0] >= trip.chain[-1] else trip.chain[::-1]
-    scene = pictures.Scene(plan, tree, shown, ends, chain, chart=620)
+    scene = pictures.Scene(plan, tree, sorted(chain), (trip.present, trip.wanted), chain, chart=620)
     return ["<section>", f"<h2>{name}</h2>", _table(steps(plan, trip)), pictures.draw(scene), "</section>"]
 
 

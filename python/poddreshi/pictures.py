@@ -2,10 +2,12 @@
 
 Nothing is judged here, only placed: which windows overlap, a window's parent and the chain come from the library.
 """
+import itertools
 from typing import Dict, FrozenSet, List, NamedTuple, Optional, Sequence, Tuple
 
 from .axes import Axis, marks
 from .calls import Tree
+from .figures import END_LIMIT
 from .given import Given, shared_minutes
 from .svg import Drawing, width
 from .times import length_words
@@ -26,13 +28,8 @@ class Scene(NamedTuple):
     shown: Sequence[int]
     ends: Optional[Tuple[int, int]] = None
     chain: Optional[Sequence[int]] = None
-    span: Optional[Tuple[int, int]] = None  # minutes to which the picture is cut
+    span: Tuple[int, int] = (0, END_LIMIT)  # minutes to which the picture is cut
     chart: float = 1000  # width of the bars' part
-
-    @property
-    def marked(self) -> FrozenSet[int]:
-        """The windows that stand out."""
-        return frozenset((*(self.ends or ()), *(self.chain or ())))
 
 
 class Panel(NamedTuple):
@@ -43,7 +40,7 @@ class Panel(NamedTuple):
     top: float
     row: float
     shown: FrozenSet[int]  # in all panels
-    marked: FrozenSet[int]
+    marked: FrozenSet[int]  # which stand out
 
     @property
     def bottom(self) -> float:
@@ -75,24 +72,26 @@ def description(scene: Scene) -> str:
 def draw(scene: Scene) -> str:
     """The picture as SVG."""
     row, rows = next((row, rows) for limit, row, rows in ROWS if limit is None or len(scene.shown) <= limit)
-    left = MARGIN + _label_width(scene, row) + 10
+    # Room for positions, and for names up to a point.
+    longest = max([64, *(width(_label(scene, at), _font(row)) for at in scene.shown)])
+    left = MARGIN + min(longest, 220) + 10
     right = left + scene.chart
     wide = right + 150 + MARGIN
-    drawing = Drawing()
-    top, shown, marked = _heading(drawing, scene, wide), frozenset(scene.shown), scene.marked
+    drawing, top = Drawing(), 60
+    drawing.text(MARGIN, 30, title(scene), 20, INK, wide - 2 * MARGIN)
+    drawing.text(MARGIN, 52, _subtitle(scene), 13, GREY, wide - 2 * MARGIN)
+    shown, marked = frozenset(scene.shown), frozenset((*(scene.ends or ()), *(scene.chain or ())))
     for positions in _panels(scene, rows):
-        start, end = scene.span or (0, max(window.end for window in scene.plan.windows))
-        axis = Axis([scene.plan.windows[at] for at in positions], start, end, left, right)
+        axis = Axis([scene.plan.windows[at] for at in positions], *scene.span, left, right)
         panel = Panel({position: at for at, position in enumerate(positions)}, axis, top + AXIS, row, shown, marked)
-        _panel(drawing, scene, panel, wide)
+        _bands(drawing, scene, panel, wide)
+        _axis(drawing, scene, panel)
+        _parents(drawing, scene, panel)
+        for position in positions:
+            _bar(drawing, scene, panel, position)
+        _handovers(drawing, scene, panel)
         top = panel.bottom + BELOW
     return drawing.finish(wide, top + MARGIN, title(scene), description(scene))
-
-
-def _label_width(scene: Scene, row: float) -> float:
-    """Room for positions, and for names up to a point."""
-    longest = max((width(_label(scene, at), _font(row)) for at in scene.shown), default=0)
-    return min(max(longest, 64), 220)
 
 
 def _label(scene: Scene, position: int) -> str:
@@ -118,13 +117,6 @@ def _panels(scene: Scene, rows: int) -> List[List[int]]:
     return panels
 
 
-def _heading(drawing: Drawing, scene: Scene, wide: float) -> float:
-    room = wide - 2 * MARGIN
-    drawing.text(MARGIN, 30, title(scene), 20, INK, room)
-    drawing.text(MARGIN, 52, _subtitle(scene), 13, GREY, room)
-    return 60
-
-
 def _subtitle(scene: Scene) -> str:
     if not scene.shown:
         return "no window to show"
@@ -135,27 +127,15 @@ def _subtitle(scene: Scene) -> str:
     return f"chain {' '.join(map(str, scene.chain))} (from the later window to the earlier)"
 
 
-def _panel(drawing: Drawing, scene: Scene, panel: Panel, wide: float) -> None:
-    _bands(drawing, scene, panel, wide)
-    _axis(drawing, scene, panel)
-    _parents(drawing, scene, panel)
-    for position in panel.rows:
-        _bar(drawing, scene, panel, position)
-    _handovers(drawing, scene, panel)
-
-
 def _bands(drawing: Drawing, scene: Scene, panel: Panel, wide: float) -> None:
     """Components are contiguous, so each is a band of rows; every second one is shaded."""
-    components, start = [scene.tree.component_of[position] for position in panel.rows], 0
-    for at, component in enumerate(components, 1):
-        if at < len(components) and components[at] == component:
-            continue
-        top, high = panel.top + panel.row * start, panel.row * (at - start)
+    for component, positions in itertools.groupby(panel.rows, key=lambda position: scene.tree.component_of[position]):
+        positions = list(positions)
+        top = panel.top + panel.row * panel.rows[positions[0]]
         if component % 2 == 0:
-            drawing.element("rect", x=0, y=top, width=wide, height=high, fill=BAND)
+            drawing.element("rect", x=0, y=top, width=wide, height=panel.row * len(positions), fill=BAND)
         size, beside = min(_font(panel.row), 11), panel.axis.right + 12
         drawing.text(beside, top + panel.row / 2 + size / 3, f"component {component}", size, GREY, wide - beside - MARGIN)
-        start = at
 
 
 def _axis(drawing: Drawing, scene: Scene, panel: Panel) -> None:
@@ -209,11 +189,11 @@ def _colour(scene: Scene, position: int) -> str:
 
 
 def _bar(drawing: Drawing, scene: Scene, panel: Panel, position: int) -> None:
-    window, marked = scene.plan.windows[position], position in panel.marked
+    window, parent, middle = scene.plan.windows[position], scene.tree.parents[position], panel.middle(position)
+    marked = position in panel.marked
+    strong = marked or scene.ends is None
     left, right = panel.axis.place(window.offset), panel.axis.place(window.end)
-    wide = max(right - left, BAR_LEAST)
-    high = panel.row * 0.62
-    parent = scene.tree.parents[position]
+    wide, high = max(right - left, BAR_LEAST), panel.row * 0.62
     told = (
         f"{scene.plan.names.label(position)}: {scene.plan.interval(position)}, component {scene.tree.component_of[position]}, "
         f"depth {scene.tree.depths[position]}, {'a root' if parent == position else f'parent {parent}'}"
@@ -223,25 +203,17 @@ def _bar(drawing: Drawing, scene: Scene, panel: Panel, position: int) -> None:
         "rect",
         title=told,
         x=min(left, panel.axis.right - wide),
-        y=panel.middle(position) - high / 2,
+        y=middle - high / 2,
         width=wide,
         height=high,
         rx=2 if panel.row > 16 else 1,
         fill=_colour(scene, position),
-        fill_opacity=1 if marked or scene.ends is None else 0.35,
+        fill_opacity=1 if strong else 0.35,
         **outline,
     )
-    size = _font(panel.row)
-    drawing.text(
-        panel.axis.left - 10,
-        panel.middle(position) + size / 3,
-        _label(scene, position),
-        size,
-        INK if marked or scene.ends is None else GREY,
-        panel.axis.left - 10 - MARGIN,
-        "end",
-        bold=marked,
-    )
+    size, room = _font(panel.row), panel.axis.left - 10 - MARGIN
+    colour = INK if strong else GREY
+    drawing.text(MARGIN + room, middle + size / 3, _label(scene, position), size, colour, room, "end", bold=marked)
 
 
 def _handovers(drawing: Drawing, scene: Scene, panel: Panel) -> None:
@@ -249,8 +221,7 @@ def _handovers(drawing: Drawing, scene: Scene, panel: Panel) -> None:
     edge of this one."""
     chain = scene.chain or ()
     for later, earlier in zip(chain, chain[1:]):
-        shared = shared_minutes(scene.plan.windows[later], scene.plan.windows[earlier])
-        minute = sum(shared) / 2
+        minute = sum(shared_minutes(scene.plan.windows[later], scene.plan.windows[earlier])) / 2
         if not panel.axis.start <= minute <= panel.axis.end:
             continue
         here = [at for at in (later, earlier) if at in panel.rows]

@@ -1,52 +1,22 @@
-"""Refusals in words. QUESTIONS is the one table of them; docs/FORMAT.md has the same."""
+"""Refusals in words. WORDS is the one table of them, by the number of the question; docs/FORMAT.md has the same."""
 from typing import Dict, NamedTuple, Optional, Sequence
 
 from . import figures
 from .wording import counted, ordinal
 
-
-class Question(NamedTuple):
-    asks: str  # as the formats' document has it
-    says: str  # what is wrong, where the call's inputs are known
-
-
-QUESTIONS: Dict[int, Question] = {
-    1: Question(
-        "Has the file at least {HEADER_LENGTH} bytes?",
-        "{the_plan} has {bytes}; a plan has at least {HEADER_LENGTH}",
-    ),
-    2: Question(
-        "Is n at most {WINDOWS_LIMIT:,}?",
-        "{the_plan} is said to have {windows}; a plan has at most {WINDOWS_LIMIT:,}",
-    ),
-    3: Question(
-        "Has the file exactly {HEADER_LENGTH} + {WINDOW_LENGTH} n bytes?",
-        "{the_plan} has {bytes}; with {windows} it has exactly {wanted:,}",
-    ),
-    4: Question(
-        "Is the length at least {LENGTH_LEAST}?",
-        "window {position} of {the_plan} has length {length:,}; a length is at least {LENGTH_LEAST}",
-    ),
-    5: Question(
-        "Is offset + length at most {END_LIMIT:,}?",
-        "window {position} of {the_plan} ends at {end:,}; an end is at most {END_LIMIT:,}",
-    ),
-    6: Question(
-        "Is the offset at least that of the window before?",
-        "window {position} of {the_plan} begins at {offset:,}, earlier than the window before it, at {before:,}",
-    ),
-    7: Question("Is the position below the number of windows or tags?", "there is no window {at}: {holder}"),
-    8: Question("Does each table hold what is to be written?", "a table has too little room for what is to be written"),
-    9: Question("Has the tag {TAG_LENGTH} bytes, the tag file a multiple of {TAG_LENGTH}?", "{the_tag} has {bytes}; {wanted}"),
-    10: Question(
-        "Is each field after the plan number at most {FIELD_LIMIT:,}?",
-        "{the_tag} has {fields}; each is at most {FIELD_LIMIT:,}",
-    ),
-    11: Question("Have both tags one plan number?", "the first tag is of plan {plan} and the second of plan {other_plan}"),
-    12: Question(
-        "Do two tags of equal component and equal rank agree in all fields?",
-        "the two tags have component {component} and rank {rank} alike and differ elsewhere, so they are not both of one plan",
-    ),
+WORDS: Dict[int, str] = {
+    1: "{the_plan} has {bytes}; a plan has at least {HEADER_LENGTH}",
+    2: "{the_plan} is said to have {windows}; a plan has at most {WINDOWS_LIMIT:,}",
+    3: "{the_plan} has {bytes}; with {windows} it has exactly {wanted:,}",
+    4: "window {position} of {the_plan} has length {length:,}; a length is at least {LENGTH_LEAST}",
+    5: "window {position} of {the_plan} ends at {end:,}; an end is at most {END_LIMIT:,}",
+    6: "window {position} of {the_plan} begins at {offset:,}, earlier than the window before it, at {before:,}",
+    7: "there is no window {at}: {holder}",
+    8: "a table has too little room for what is to be written",
+    9: "{the_tag} has {bytes}; {wanted}",
+    10: "{the_tag} has {fields}; each is at most {FIELD_LIMIT:,}",
+    11: "the first tag is of plan {plan} and the second of plan {other_plan}",
+    12: "the two tags have component {component} and rank {rank} alike and differ elsewhere, so they are not both of one plan",
 }
 
 
@@ -57,7 +27,6 @@ class Asked(NamedTuple):
     tags: Sequence[bytes] = ()
     tag_file: Optional[bytes] = None
     positions: Sequence[int] = ()
-    before: int = 0  # windows that stand before the plan's and were left out
 
 
 class Refused(Exception):
@@ -65,24 +34,17 @@ class Refused(Exception):
 
     def __init__(self, number: int, input: int = 0, position: int = 0, words: str = ""):
         self.number, self.input, self.position = number, input, position
-        self.words = words or f'"no" to: {question(number)}'
+        self.words = words or "the formats' document has the question"
         super().__init__(number, input, position, self.words)
 
     def __str__(self) -> str:
         return f"refused by question {self.number}: {self.words}"
 
 
-def question(number: int) -> str:
-    """A question as the formats' document has it."""
-    if number not in QUESTIONS:
-        return "a question that is newer than the package"
-    return QUESTIONS[number].asks.format_map(vars(figures))
-
-
 def refusal(number: int, input: int, position: int, asked: Asked) -> Refused:
-    """A refusal with words that say what is wrong in the inputs of the call, where they can tell."""
+    """A refusal with words that say what is wrong in the inputs of the call, where they can tell, and the question is known."""
     try:
-        words = QUESTIONS[number].says.format_map(_facts(input, position, asked))
+        words = WORDS[number].format_map(_facts(input, position, asked))
     except KeyError:
         words = ""
     return Refused(number, input, position, words)
@@ -124,11 +86,11 @@ def _plan_facts(asked: Asked, input: int, position: int) -> dict:
         windows = figures.HEADER.unpack_from(file)[1]
         facts["windows"], facts["holder"] = counted(windows, "window"), _holder("the plan", windows, "window")
         facts["wanted"] = figures.HEADER_LENGTH + figures.WINDOW_LENGTH * windows
-    start = figures.HEADER_LENGTH + figures.WINDOW_LENGTH * (position - asked.before)
+    start = figures.HEADER_LENGTH + figures.WINDOW_LENGTH * position
     if start + figures.WINDOW_LENGTH <= len(file):
         offset, length = figures.WINDOW.unpack_from(file, start)
         facts.update(offset=offset, length=length, end=offset + length)
-        if position > asked.before:
+        if position:
             facts["before"] = figures.WINDOW.unpack_from(file, start - figures.WINDOW_LENGTH)[0]
     return facts
 

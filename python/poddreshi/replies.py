@@ -4,8 +4,6 @@ import io
 import json
 from typing import NamedTuple, Sequence
 
-from .failures import ANSWERED
-
 
 class Reply(NamedTuple):
     """An answer in words, as a table and as data. What has one form alone has it as bytes."""
@@ -15,8 +13,9 @@ class Reply(NamedTuple):
     rows: Sequence[Sequence] = ()
     data: object = None
     content: bytes = b""
-    status: int = ANSWERED  # OTHERWISE for "no chain" and "different", REFUSED where a part was refused
-    faults: Sequence[str] = ()  # the words of what was refused
+    otherwise: bool = False  # it is "no chain" or "different"
+    refused: bool = False  # it is itself a refusal
+    faults: Sequence[str] = ()  # the words of parts that were refused
 
     def encoded(self, form: str) -> bytes:
         if self.content:
@@ -37,11 +36,11 @@ class Reply(NamedTuple):
         return json.dumps(self.data, ensure_ascii=False, indent=2) + "\n"
 
 
-def aligned(rows: Sequence[Sequence[str]], right: Sequence[int] = ()) -> str:
+def aligned(rows: Sequence[Sequence[str]], right: Sequence[int] = (), between: str = "  ") -> str:
     """Lines of cells that stand below one another; the columns named in `right` are set to the right."""
     widths = [max(map(len, column)) for column in zip(*rows)]
     lines = (
-        "  ".join(cell.rjust(width) if at in right else cell.ljust(width) for at, (cell, width) in enumerate(zip(row, widths)))
+        between.join(cell.rjust(width) if at in right else cell.ljust(width) for at, (cell, width) in enumerate(zip(row, widths)))
         for row in rows
     )
     return "".join(line.rstrip() + "\n" for line in lines)

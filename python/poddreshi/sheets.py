@@ -2,14 +2,11 @@
 from typing import List, NamedTuple, Optional, Sequence, Tuple, Union
 
 from . import calls
-from .failures import ANSWERED, OTHERWISE, REFUSED, Mistake
 from .given import Given, shared_minutes
-from .refusals import Refused
 from .replies import Reply, aligned
-from .texts import Fault, Faulty, Row, clean, csv_rows, lines_of, words_of
+from .texts import Fault, Faulty, Row, clean, read_rows, words_of
 from .wording import counted
 
-_COLUMNS = ("rig", "present", "wanted")
 _LINE = "a line has a rig's name, its present window and the window where it is wanted"
 HEADER = (
     *("line", "rig", "present", "wanted", "answer", "handovers"),
@@ -27,8 +24,8 @@ class Trip(NamedTuple):
     chain: Optional[Tuple[int, ...]]
 
     @property
-    def answer(self) -> str:
-        return str(calls.Chain(self.chain).handovers)
+    def handovers(self) -> calls.Handovers:
+        return calls.Chain(self.chain).handovers
 
 
 class Sheet(NamedTuple):
@@ -43,26 +40,16 @@ class Sheet(NamedTuple):
 
 def make(plan: Given, data: bytes) -> Sheet:
     """The sheet for lines of a rig's name and two windows. A line that is wrong is kept as a fault, and spoils no other."""
-    rows, faults = _rows(data)
-    if not rows and not faults:
+    trips, faults = read_rows(data, ("rig", "present", "wanted"), 3, _cells, lambda row: _trip(plan, row))
+    if not trips and not faults:
         raise Faulty([Fault(1, f"there is no rig; {_LINE}")])
-    trips = []
-    for row in rows:
-        try:
-            trips.append(_trip(plan, row))
-        except (ValueError, Mistake, Refused) as error:
-            faults.append(Fault(row.line, str(error)))
     return Sheet(plan, trips, faults)
 
 
-def _rows(data: bytes) -> Tuple[List[Row], List[Fault]]:
-    lines, faults = lines_of(data)
-    table = csv_rows(lines, _COLUMNS, 3)
-    if table is not None:
-        return table[0], faults + table[1]
-    found = [(number, words_of(line)) for number, line in enumerate(lines, 1)]
-    # The last two words are windows, and a rig's name may have several.
-    return [Row(number, [" ".join(words[:-2]), *words[-2:]]) for number, words in found if words], faults
+def _cells(line: str) -> List[str]:
+    """The last two words are windows, and a rig's name may have several."""
+    words = words_of(line)
+    return [" ".join(words[:-2]), *words[-2:]]
 
 
 def _trip(plan: Given, row: Row) -> Trip:
@@ -88,7 +75,7 @@ def steps(plan: Given, trip: Trip) -> List[list]:
 
 
 def heading(plan: Given, trip: Trip) -> str:
-    return f"{trip.rig}: from {plan.names.label(trip.present)} to {plan.names.label(trip.wanted)}: {trip.answer}"
+    return f"{trip.rig}: from {plan.names.label(trip.present)} to {plan.names.label(trip.wanted)}: {trip.handovers}"
 
 
 def summary(sheet: Sheet) -> str:
@@ -98,9 +85,9 @@ def summary(sheet: Sheet) -> str:
     if sheet.faults:
         words.append(f"{counted(len(sheet.faults), 'line')} not read")
     if joined:
-        longest = max(joined, key=lambda trip: len(trip.chain))
-        total = sum(len(trip.chain) - 1 for trip in joined)
-        words.append(f"{total} handovers in all, at most {len(longest.chain) - 1} ({longest.rig})")
+        longest = max(joined, key=lambda trip: trip.handovers)
+        total = sum(trip.handovers.count for trip in joined)
+        words.append(f"{total} handovers in all, at most {longest.handovers.count} ({longest.rig})")
     return ", ".join(words)
 
 
@@ -126,22 +113,20 @@ def _csv(sheet: Sheet) -> List[list]:
         elif each.chain is None:
             rows.append([*each[:4], "no chain"] + [""] * 8)
         else:
-            head = [*each[:4], "chain", len(each.chain) - 1]
+            head = [*each[:4], "chain", each.handovers.count]
             rows += [[*head, step, *row] for step, row in enumerate(steps(sheet.plan, each))]
     return rows
 
 
 def _data(sheet: Sheet) -> dict:
-    rigs = []
-    for trip in sheet.trips:
-        chain = None if trip.chain is None else [sheet.plan.data(position) for position in trip.chain]
-        count = None if trip.chain is None else len(trip.chain) - 1
-        rigs.append({**trip._asdict(), "handovers": count, "chain": chain})
+    rigs = [
+        {**trip._asdict(), "handovers": trip.handovers.count, "chain": trip.chain and [*map(sheet.plan.data, trip.chain)]}
+        for trip in sheet.trips
+    ]
     faults = [fault._asdict() for fault in sheet.faults]
     return {"plan": sheet.plan.number, "rigs": rigs, "faults": faults, "summary": summary(sheet)}
 
 
 def reply(sheet: Sheet, source: str) -> Reply:
-    status = OTHERWISE if any(trip.chain is None for trip in sheet.trips) else ANSWERED
-    faults = [f"{source}, {fault}" for fault in sheet.faults]
-    return Reply(_text(sheet), HEADER, _csv(sheet), _data(sheet), status=REFUSED if faults else status, faults=faults)
+    faults, apart = [f"{source}, {fault}" for fault in sheet.faults], any(trip.chain is None for trip in sheet.trips)
+    return Reply(_text(sheet), HEADER, _csv(sheet), _data(sheet), otherwise=apart, faults=faults)

@@ -1,5 +1,6 @@
 """The sources that the library and the listing program are made of, known by their content and not by file times."""
 import hashlib
+import re
 from pathlib import Path
 from typing import Dict, List
 
@@ -10,12 +11,8 @@ RECIPE = 1  # raised where the way of building changes
 
 def _needs(root: Path) -> Dict[str, List[str]]:
     """Each crate and what it depends on, from crates.txt."""
-    needs = {}
-    for line in (root / "crates.txt").read_text(encoding="utf-8").splitlines():
-        name, colon, others = line.partition("#")[0].partition(":")
-        if colon:
-            needs[name.strip()] = others.split()
-    return needs
+    text = (root / "crates.txt").read_text(encoding="utf-8")
+    return {name: others.split() for name, others in re.findall(r"^(\w+):([^#\n]*)", text, re.M)}
 
 
 def crates(root: Path) -> Dict[str, List[str]]:

@@ -1,5 +1,6 @@
 """SVG by hand: numbers that are finite and short, text that is escaped and never wider than its room."""
 import html
+import itertools
 import math
 import unicodedata
 from typing import List
@@ -38,12 +39,8 @@ def fitted(words: str, size: float, room: float) -> str:
     """The words, cut to the room with an ellipsis where they are too long."""
     if width(words, size) <= room:
         return words
-    kept, taken = "", width("…", size)
-    for character in words:
-        taken += width(character, size)
-        if taken > room:
-            break
-        kept += character
+    taken = itertools.accumulate(width(character, size) for character in words)
+    kept = words[: sum(each <= room - width("…", size) for each in taken)]
     return kept.rstrip() + "…" if kept else ""
 
 
@@ -53,9 +50,10 @@ class Drawing:
     def __init__(self) -> None:
         self.elements: List[str] = []
 
-    def element(self, name: str, title: str = "", **attributes) -> None:
+    def element(self, name: str, title: str = "", words: str = "", **attributes) -> None:
         written = "".join(f' {key.replace("_", "-")}="{_value(value)}"' for key, value in attributes.items())
-        self.elements.append(f"<{name}{written}><title>{clean(title)}</title></{name}>" if title else f"<{name}{written}/>")
+        inside = clean(words) + (f"<title>{clean(title)}</title>" if title else "")
+        self.elements.append(f"<{name}{written}>{inside}</{name}>" if inside else f"<{name}{written}/>")
 
     def line(self, x1: float, y1: float, x2: float, y2: float, stroke: str, stroke_width: float = 1, **more) -> None:
         self.element("line", x1=x1, y1=y1, x2=x2, y2=y2, stroke=stroke, stroke_width=stroke_width, **more)
@@ -64,10 +62,8 @@ class Drawing:
         """Text that takes no more than its room; what was cut off is in its title."""
         short = fitted(words, size, room)
         if short:
-            place = f'x="{number(x)}" y="{number(y)}" font-size="{number(size)}" text-anchor="{anchor}"'
-            weight = ' font-weight="bold"' if bold else ""
-            title = f"<title>{clean(words)}</title>" if short != words else ""
-            self.elements.append(f'<text {place} fill="{fill}"{weight}>{clean(short)}{title}</text>')
+            more = {"text_anchor": anchor, "fill": fill, **({"font_weight": "bold"} if bold else {})}
+            self.element("text", words if short != words else "", short, x=x, y=y, font_size=size, **more)
 
     def finish(self, wide: float, high: float, title: str, description: str) -> str:
         head = (

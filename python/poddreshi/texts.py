@@ -7,12 +7,14 @@
 import csv
 import re
 import unicodedata
-from typing import Iterator, List, NamedTuple, Optional, Tuple
+from typing import Callable, Iterator, List, NamedTuple, Optional, Sequence, Tuple
 
 from . import calls, times
+from .failures import Mistake
 from .figures import END_LIMIT, LENGTH_LEAST, NUMBER_LIMIT, WINDOWS_LIMIT
 from .plans import Window, pack
 from .refusals import Asked, Refused, refusal
+from .replies import aligned
 from .times import Clock
 
 _QUOTED = r'(?:(?<=\s)|^)"(?:[^"]|"")*"(?=\s|$)'
@@ -55,7 +57,7 @@ class Row(NamedTuple):
     cells: List[str]
 
 
-def lines_of(data: bytes) -> Tuple[List[str], List[Fault]]:
+def _lines_of(data: bytes) -> Tuple[List[str], List[Fault]]:
     """The lines of a text in UTF-8; a line that is not is a fault, and is taken as empty."""
     lines, faults = [], []
     for number, line in enumerate(data.replace(b"\r\n", b"\n").replace(b"\r", b"\n").split(b"\n"), 1):
@@ -67,7 +69,7 @@ def lines_of(data: bytes) -> Tuple[List[str], List[Fault]]:
     return lines, faults
 
 
-def uncommented(line: str) -> str:
+def _uncommented(line: str) -> str:
     """The line without its comment: from a # that begins a word, outside quotes."""
     line = line.replace("\xa0", " ")
     comment = next((found for found in _QUOTED_OR_COMMENT.finditer(line) if found[1]), None)
@@ -76,7 +78,7 @@ def uncommented(line: str) -> str:
 
 def words_of(line: str) -> List[str]:
     """The words of a line, of which one in quotes may hold spaces."""
-    return [unquoted(word) for word in _WORD.findall(uncommented(line))]
+    return [unquoted(word) for word in _WORD.findall(line)]
 
 
 def unquoted(name: str) -> str:
@@ -104,9 +106,10 @@ def _header(line: List[str], delimiter: str) -> List[str]:
         return []
 
 
-def csv_rows(lines: List[str], columns: Tuple[str, ...], wanted: int) -> Optional[Tuple[List[Row], List[Fault]]]:
-    """The rows of CSV in the order of `columns`, or None where the first line is no header with the first `wanted` of them."""
-    start = next((at for at, line in enumerate(lines) if uncommented(line)), len(lines))
+def _csv_rows(lines: List[str], columns: Sequence[str], wanted: int, faults: List[Fault]) -> Optional[List[Row]]:
+    """The rows of CSV in the order of `columns`, or None where the first line is no header with the first `wanted` of them.
+    What is wrong is added to the faults."""
+    start = next((at for at, line in enumerate(lines) if _uncommented(line)), len(lines))
     for delimiter in ",;\t":
         header = _header(lines[start : start + 1], delimiter)
         if all(column in header for column in columns[:wanted]):
@@ -114,13 +117,13 @@ def csv_rows(lines: List[str], columns: Tuple[str, ...], wanted: int) -> Optiona
     else:
         return None
     places = [header.index(column) if column in header else None for column in columns]
-    kept = ["\n" if line.startswith("#") else line + "\n" for line in lines[start + 1 :]]
-    rows, faults, reader = [], [], csv.reader(kept, delimiter=delimiter, strict=True)
+    kept = ["\n" if line.lstrip().startswith("#") else line + "\n" for line in lines[start + 1 :]]
+    rows, reader = [], csv.reader(kept, delimiter=delimiter, strict=True)
     while True:
         try:
             cells = next(reader)
         except StopIteration:
-            return rows, faults
+            return rows
         except csv.Error as error:
             faults.append(Fault(start + 1 + reader.line_num, f"is no line of CSV: {error}"))
             continue
@@ -129,12 +132,24 @@ def csv_rows(lines: List[str], columns: Tuple[str, ...], wanted: int) -> Optiona
             rows.append(Row(start + 1 + reader.line_num, taken))
 
 
-def _plain_rows(lines: List[str]) -> Iterator[Row]:
-    for number, line in enumerate(lines, 1):
-        line = uncommented(line)
-        if line:
-            parts = _LINE.fullmatch(line)
-            yield Row(number, [parts["offset"], parts["length"] or "", unquoted(parts["name"] or "")])
+def read_rows(data: bytes, columns: Sequence[str], wanted: int, split: Callable, take: Callable) -> Tuple[list, List[Fault]]:
+    """What `take` makes of each row, and the rows of which it makes nothing. They are those of CSV, or of lines that `split`
+    makes cells of."""
+    lines, faults = _lines_of(data)
+    rows, taken = _csv_rows(lines, columns, wanted, faults), []
+    if rows is None:
+        rows = [Row(number, split(line)) for number, line in enumerate(map(_uncommented, lines), 1) if line]
+    for row in rows:
+        try:
+            taken.append(take(row))
+        except (ValueError, Mistake, Refused) as error:
+            faults.append(Fault(row.line, str(error)))
+    return taken, sorted(faults, key=lambda fault: fault.line)
+
+
+def _cells(line: str) -> List[str]:
+    parts = _LINE.fullmatch(line)
+    return [parts["offset"], parts["length"] or "", unquoted(parts["name"] or "")]
 
 
 def _entry(row: Row, clock: Clock) -> Entry:
@@ -150,36 +165,20 @@ def _entry(row: Row, clock: Clock) -> Entry:
 
 def parse(data: bytes, clock: Clock) -> Tuple[List[Entry], List[Fault]]:
     """The windows of a text, in its order, and the lines that are none."""
-    lines, faults = lines_of(data)
-    table = csv_rows(lines, ("offset", "length", "name"), 2)
-    rows = list(_plain_rows(lines)) if table is None else table[0]
-    faults += [] if table is None else table[1]
-    entries = []
-    for row in rows:
-        try:
-            entries.append(_entry(row, clock))
-        except ValueError as error:
-            faults.append(Fault(row.line, str(error)))
-    return entries, faults
+    return read_rows(data, ("offset", "length", "name"), 2, _cells, lambda row: _entry(row, clock))
 
 
-def _refusals(entries: List[Entry]) -> Iterator[Fault]:
+def _refusals(entries: List[Entry], file: bytes) -> Iterator[Fault]:
     """What the library refuses, asked of each window alone and then of its order, so that one fault hides no other."""
-    before: List[Window] = []
     for position, entry in enumerate(entries):
-        pair = before + [entry.window]
-        for windows, asked in (([entry.window], [entry.window]), (pair, [_faultless(window) for window in pair])):
+        pair = [each.window.offset for each in entries[max(position - 1, 0) : position + 1]]
+        # Two windows of which nothing can be refused but that one begins before the other.
+        in_order = [Window(min(offset - min(pair), END_LIMIT - LENGTH_LEAST), LENGTH_LEAST) for offset in pair]
+        for windows in ([entry.window], in_order):
             try:
-                calls.validate(pack(0, asked))
+                calls.validate(pack(0, windows))
             except Refused as no:
-                known = Asked(plans=[pack(0, windows)], before=position - no.position)
-                yield Fault(entry.line, str(refusal(no.number, 0, position, known)))
-        before = [entry.window]
-
-
-def _faultless(window: Window) -> Window:
-    """A window of which nothing can be refused but its place among others."""
-    return Window(min(window.offset, END_LIMIT - LENGTH_LEAST), LENGTH_LEAST)
+                yield Fault(entry.line, str(refusal(no.number, 0, position, Asked(plans=[file]))))
 
 
 def make(number: int, data: bytes, clock: Clock, sort: bool = False, empty: bool = False) -> Tuple[bytes, List[Entry]]:
@@ -189,8 +188,8 @@ def make(number: int, data: bytes, clock: Clock, sort: bool = False, empty: bool
         raise Faulty([Fault(1, "the text has no window; --empty makes a plan of none")])
     if sort:
         entries.sort(key=lambda entry: entry.window.offset)
-    faults += _refusals(entries)
     file = pack(number, [entry.window for entry in entries])
+    faults += _refusals(entries, file)
     try:
         calls.validate(file)
     except Refused as no:
@@ -203,10 +202,6 @@ def make(number: int, data: bytes, clock: Clock, sort: bool = False, empty: bool
 
 def write(windows: List[Window], names: List[str], clock: Clock) -> str:
     """The lines of a text, aligned."""
-    cells = [(clock.show(each.offset), clock.show_length(each.length)) for each in windows]
-    widths = [max((len(row[column]) for row in cells), default=0) for column in range(2)]
-    lines = (
-        f"{offset:>{widths[0]}} {length:>{widths[1]}} {quoted(name)}".rstrip()
-        for (offset, length), name in zip(cells, names)
-    )
-    return "".join(line + "\n" for line in lines)
+    each = zip(windows, names)
+    rows = [(clock.show(window.offset), clock.show_length(window.length), quoted(name)) for window, name in each]
+    return aligned(rows, right=(0, 1), between=" ")

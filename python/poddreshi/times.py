@@ -8,7 +8,7 @@ from .wording import cited
 
 MINUTE = timedelta(minutes=1)
 _DATE = re.compile(r"(\d{4})-(\d\d)-(\d\d)(?:(?:[ \t]+|T)(\d\d?):(\d\d))?", re.ASCII)
-_NUMBER = re.compile(r"\d{1,20}", re.ASCII)
+NUMBER = re.compile(r"\d{1,20}", re.ASCII)
 _LENGTH = re.compile(r"(?:(\d{1,9})w)?(?:(\d{1,9})d)?(?:(\d{1,9})h)?(?:(\d{1,9})m)?", re.ASCII)
 _UNITS = (7 * 24 * 60, 24 * 60, 60, 1)
 
@@ -26,7 +26,7 @@ def date(words: str) -> datetime:
 
 def length(word: str) -> int:
     """Minutes (`90`), or weeks, days, hours and minutes (`2d`, `48h`, `1h30m`)."""
-    if _NUMBER.fullmatch(word):
+    if NUMBER.fullmatch(word):
         return int(word)
     found = _LENGTH.fullmatch(word) if word else None
     if not found:
@@ -48,7 +48,7 @@ class Clock:
 
     def offset(self, words: str) -> int:
         """The minute that is meant by a number or a date."""
-        if _NUMBER.fullmatch(words):
+        if NUMBER.fullmatch(words):
             return int(words)
         if not _DATE.fullmatch(words):
             raise ValueError(f"{cited(words)} is no offset; write minutes (1440) or a date (2026-02-06 08:00)")

@@ -3,6 +3,7 @@ import csv
 import io
 import json
 import random
+import shlex
 import unittest
 
 from support import EXAMPLES, LISTING_12, PLAN_12, TAGS_12, Case, line_plan, plan
@@ -35,6 +36,15 @@ class Commands(Case):
             self.assertIn("examples:", own)
             for example in command.examples:
                 self.assertIn(example, own)
+
+    def test_the_examples_of_the_help(self):
+        """They answer one after another, beside the folder of examples, once `plan` has made the year's plan."""
+        (self.folder / "examples").symlink_to(EXAMPLES)
+        for command in sorted(all_commands(), key=lambda command: command.name != "plan"):
+            for example in command.examples:
+                words = shlex.split(example)
+                if words[0] == "poddreshi" and "|" not in words:
+                    self.assertEqual(self.run_front(*words[1:]).returncode, 4 if "--exit-code" in words else 0, example)
 
     def test_list(self):
         self.assertEqual(self.text("list", self.plan), LISTING_12)
@@ -135,6 +145,9 @@ class Commands(Case):
         self.assertEqual(told.splitlines()[1].split(), "5 Quay 2026-02-06 08:17 2026-02-06 08:18".split())
         self.fails(2, "chain", self.plan, 1, "Pier", "--names", names, about='no window "Pier"')
         self.fails(2, "chain", self.plan, 1, "Quay", about="names come with --names")
+        year = self.answers("plan", 40, EXAMPLES / "year.txt", "--origin", "2026-01-01")
+        done = self.run_front("chain", "-", 2, 7, "--names", EXAMPLES / "year.txt", stdin=year)
+        self.assertEqual((done.returncode, done.stderr.count(b"which takes --origin where it has dates")), (1, 60))
         bad = self.file("bad", "9 nowhere\n1 here\n1 there\nnobody\n")
         done = self.run_front("chain", self.plan, 1, 5, "--names", bad)
         lines = [line.split(b": ")[0][-6:] for line in done.stderr.splitlines()]
@@ -174,11 +187,14 @@ class Commands(Case):
 
     def test_exit_code(self):
         other = self.file("other.plan", plan((0, 1)))
-        for words in (("chain", self.plan, 5, 6), ("count", self.tags, 5, 6), ("same", self.plan, other)):
+        all_of_them = ("count", self.tags, 5, "--all")
+        for words in (("chain", self.plan, 5, 6), ("count", self.tags, 5, 6), all_of_them, ("same", self.plan, other)):
             self.assertEqual(self.run_front(*words).returncode, 0)
             self.assertEqual(self.run_front(*words, "--exit-code").returncode, 4)
         self.assertEqual(self.run_front("chain", self.plan, 4, 5, "--exit-code").returncode, 0)
         self.assertEqual(self.run_front("same", self.plan, self.plan, "--exit-code").returncode, 0)
+        joined = self.file("joined.tags", TAGS_12[:60])
+        self.assertEqual(self.run_front("count", joined, 5, "--all", "--exit-code").returncode, 0)
 
     def test_mistaken_commands(self):
         for words in (

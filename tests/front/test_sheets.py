@@ -82,6 +82,11 @@ class Chains(Case):
         rigs = self.file("rigs.txt", '# as lines\nRig 1 "Lock 2" Quay\n')
         self.assertEqual(json.loads(self.answers("chains", self.plan, rigs, "--names", self.names, "--json")), data)
 
+    def test_faults_in_order_of_lines(self):
+        done = self.run_front("chains", self.plan, "-", "--json", stdin=b"Rig\n\xff 1 2\nRig 1 5\nRig 0 99\n")
+        self.assertEqual([line.split(b": ")[0][-6:] for line in done.stderr.splitlines()], [b"line 1", b"line 2", b"line 4"])
+        self.assertEqual([fault["line"] for fault in json.loads(done.stdout)["faults"]], [1, 2, 4])
+
     def test_status(self):
         good = self.file("good", "Rig 1 5\n")
         apart = self.file("apart", "Rig 5 6\n")

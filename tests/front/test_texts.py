@@ -42,7 +42,7 @@ class Reading(unittest.TestCase):
 
     def test_csv(self):
         for text in (
-            "offset,length,name\n0,10,North pier\n# left out\n2,3,\"Bay #3, \"\"old\"\"\"\n",
+            "offset,length,name\n0,10,North pier\n# left out\n  # this too\n2,3,\"Bay #3, \"\"old\"\"\"\n",
             "\ufeffname;Length (minutes);OFFSET\r\nNorth pier;10;0\r\n\"Bay #3, \"\"old\"\"\";3;2\r\n",
             "# a comment\noffset\tlength\tname\n0\t10\tNorth pier\n\n2\t3\tBay #3, \"old\"\n",
         ):
@@ -92,6 +92,11 @@ class Faults(unittest.TestCase):
             "line 1: refused by question 5: window 0 of the plan ends at 10,000,001; an end is at most 10,000,000",
             "line 2: refused by question 6: window 1 of the plan begins at 5, earlier than the window before it, at 10,000,000",
         ])
+
+    def test_order_of_ends_that_are_all_too_late(self):
+        told = [fault[:29] for fault in faults("20000000 1\n15000000 1\n4294967295 1\n4294967294 1\n")]
+        asked = [(1, 5), (2, 5), (2, 6), (3, 5), (4, 5), (4, 6)]
+        self.assertEqual(told, [f"line {line}: refused by question {number}" for line, number in asked])
 
     def test_dates(self):
         told = faults("2025-12-31 1\n2026-02-30 1\n2026-01-01 24:00 1\n2026-01-01 1h30\n", ORIGIN)

@@ -10,6 +10,22 @@ import poddreshi
 from poddreshi import figures, refusals
 
 
+ASKED = {
+    1: "Has the file at least {HEADER_LENGTH} bytes?",
+    2: "Is n at most {WINDOWS_LIMIT:,}?",
+    3: "Has the file exactly {HEADER_LENGTH} + {WINDOW_LENGTH} n bytes?",
+    4: "Is the length at least {LENGTH_LEAST}?",
+    5: "Is offset + length at most {END_LIMIT:,}?",
+    6: "Is the offset at least that of the window before?",
+    7: "Is the position below the number of windows or tags?",
+    8: "Does each table hold what is to be written?",
+    9: "Has the tag {TAG_LENGTH} bytes, the tag file a multiple of {TAG_LENGTH}?",
+    10: "Is each field after the plan number at most {FIELD_LIMIT:,}?",
+    11: "Have both tags one plan number?",
+    12: "Do two tags of equal component and equal rank agree in all fields?",
+}
+
+
 def as_in_the_document(template: str) -> str:
     """The figures filled in, and the names left as they are."""
     parts = []
@@ -77,7 +93,7 @@ class Words(Case):
             )
 
     def test_no_question_without_words(self):
-        for number in refusals.QUESTIONS:
+        for number in refusals.WORDS:
             for input in (0, 1):
                 self.assertTrue(str(refusals.Refused(number, input, 3)).startswith(f"refused by question {number}: "))
                 self.assertNotIn("{", str(refusals.Refused(number, input, 3)))
@@ -96,9 +112,9 @@ class Words(Case):
             self.skipTest("docs/FORMAT.md has no words for refusals")
         row = re.compile(r"^\| (\d+) \| ([^|]+) \|", re.M)
         asked = {int(number): words for number, words in row.findall(text) if words.endswith("?")}
-        self.assertEqual(asked, {number: refusals.question(number) for number in refusals.QUESTIONS})
+        self.assertEqual(asked, {number: as_in_the_document(words) for number, words in ASKED.items()})
         said = {int(number): words for number, words in row.findall(section.partition("\n## ")[0])}
-        self.assertEqual(said, {number: as_in_the_document(each.says) for number, each in refusals.QUESTIONS.items()})
+        self.assertEqual(said, {number: as_in_the_document(words) for number, words in refusals.WORDS.items()})
 
 
 if __name__ == "__main__":

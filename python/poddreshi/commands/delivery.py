@@ -1,14 +1,29 @@
 """build, install: in a checkout alone."""
 from .. import building, installing, places
-from ..commandline import Command
+from ..commandline import command, word
 from ..failures import Failure
 from ..replies import Reply
 
 
+@command(
+    "build",
+    "prove and build the library and the listing program",
+    [],
+    ["./poddreshi build"],
+    "Prints the folder of the libraries. Every other command does this by itself where it is needed. It takes "
+    f"{building.HOW_LONG}.",
+)
 def _build(args) -> Reply:
     return Reply(str(building.ensure(places.checkout()) / "lib"))
 
 
+@command(
+    "install",
+    "lay down the libraries, the header, the Python package and this command",
+    [word("prefix", "such as /usr/local; DESTDIR is respected")],
+    ["./poddreshi install /usr/local", "DESTDIR=stage ./poddreshi install /usr"],
+    "The tree runs on a computer with no prover and no compiler, and may be moved.",
+)
 def _install(args) -> Reply:
     root = places.checkout()
     built = building.ensure(root)
@@ -19,24 +34,4 @@ def _install(args) -> Reply:
     return Reply(f"installed in {target}")
 
 
-COMMANDS = [
-    Command(
-        "build",
-        "prove and build the library and the listing program",
-        lambda parser: None,
-        _build,
-        ["./poddreshi build"],
-        "Prints the folder of the libraries. Every other command does this by itself where it is needed. It takes "
-        f"{building.HOW_LONG}.",
-        needs_library=False,
-    ),
-    Command(
-        "install",
-        "lay down the libraries, the header, the Python package and this command",
-        lambda parser: parser.add_argument("prefix", metavar="PREFIX", help="such as /usr/local; DESTDIR is respected"),
-        _install,
-        ["./poddreshi install /usr/local", "DESTDIR=stage ./poddreshi install /usr"],
-        "The tree runs on a computer with no prover and no compiler, and may be moved.",
-        needs_library=False,
-    ),
-]
+COMMANDS = [_build, _install]

@@ -2,14 +2,14 @@
 from typing import Optional, Sequence, Tuple
 
 from .. import calls, files
-from ..commandline import Command, given, number, once
-from ..failures import ANSWERED, OTHERWISE
+from ..commandline import NAMES, ORIGIN, PLAN, command, exit_code, forms, given, number, once, word
 from ..figures import PLAN_LIMIT
 from ..given import Given
 from ..replies import Reply, aligned
 from ..wording import counted, ordinal
 
 _COLUMNS = ("window", "name", "begin", "end")
+_WINDOW = "a position, or a name"
 
 
 def _windows_text(plan: Given, positions: Sequence[int], bare: str) -> str:
@@ -19,6 +19,17 @@ def _windows_text(plan: Given, positions: Sequence[int], bare: str) -> str:
     return aligned([plan.shown(position) for position in positions], right=(0,))
 
 
+@command(
+    "chain",
+    "a shortest chain between two windows, from the later to the earlier",
+    [PLAN, word("first", _WINDOW), word("second", _WINDOW), NAMES, ORIGIN, exit_code("no chain"), forms()],
+    [
+        "poddreshi chain examples/plan-12.plan 1 5",
+        "poddreshi chain year.plan 2 7 --names examples/year.txt --origin 2026-01-01",
+    ],
+    "Of the shortest chains it is the one with the earliest window at each step. With --names or --origin there is a line "
+    "for each window: position, name, begin and end.",
+)
 def _chain(args) -> Reply:
     plan = given(args)
     first, second = plan.names.position(args.first), plan.names.position(args.second)
@@ -31,10 +42,16 @@ def _chain(args) -> Reply:
         "handovers": found.handovers.count,
         "chain": None if found.positions is None else [plan.data(position) for position in positions],
     }
-    status = OTHERWISE if found.positions is None else ANSWERED
-    return Reply(_windows_text(plan, positions, str(found)), ("step", *_COLUMNS), rows, data, status=status)
+    text = _windows_text(plan, positions, str(found))
+    return Reply(text, ("step", *_COLUMNS), rows, data, otherwise=found.positions is None)
 
 
+@command(
+    "neighbours",
+    "the windows that overlap one window",
+    [PLAN, word("position", _WINDOW), NAMES, ORIGIN, forms()],
+    ["poddreshi neighbours examples/plan-12.plan 2"],
+)
 def _neighbours(args) -> Reply:
     plan = given(args)
     at = plan.names.position(args.position)
@@ -44,6 +61,13 @@ def _neighbours(args) -> Reply:
     return Reply(_windows_text(plan, found.positions, str(found)), _COLUMNS, rows, data)
 
 
+@command(
+    "reach",
+    "a bound on the handovers between any two windows of a window's component",
+    [PLAN, word("position", "a window's position in the plan"), forms()],
+    ["poddreshi reach examples/plan-12.plan 5"],
+    "It is a bound: no two windows are further apart, and perhaps no two are so far.",
+)
 def _reach(args) -> Reply:
     at = number(args.position)
     found = calls.reach(files.read(args.plan, PLAN_LIMIT), at)
@@ -60,6 +84,13 @@ def _difference(plans: Sequence[bytes], windows: int) -> Optional[Tuple[int, int
     return None
 
 
+@command(
+    "same",
+    "whether the same pairs of windows overlap in two plans",
+    [word("first", "a plan file", "PLAN"), word("second", "another", "PLAN"), exit_code("different"), forms()],
+    ["poddreshi same examples/plan-12.plan examples/plan-31.plan --exit-code"],
+    "Where they differ, the first position and the first window that overlaps it in one of the plans alone are named.",
+)
 def _same(args) -> Reply:
     once(args.first, args.second)
     plans = [files.read(name, PLAN_LIMIT) for name in (args.first, args.second)]
@@ -77,69 +108,7 @@ def _same(args) -> Reply:
         words.append(f"windows {pair[0]} and {pair[1]} overlap in the {there} plan and not in the {elsewhere}")
         data.update(position=pair[0], other=pair[1], overlap_in=there)
     row = ("different", "; ".join(words), *pair)
-    return Reply(": ".join(row[:2]), header, [row], data, status=OTHERWISE)
+    return Reply(": ".join(row[:2]), header, [row], data, otherwise=True)
 
 
-def _chain_arguments(parser) -> None:
-    parser.plan()
-    parser.add_argument("first", metavar="FIRST", help="a position, or a name")
-    parser.add_argument("second", metavar="SECOND", help="a position, or a name")
-    parser.names()
-    parser.exit_code("no chain")
-    parser.forms()
-
-
-def _neighbours_arguments(parser) -> None:
-    parser.plan()
-    parser.add_argument("position", metavar="POSITION", help="a position, or a name")
-    parser.names()
-    parser.forms()
-
-
-def _reach_arguments(parser) -> None:
-    parser.plan()
-    parser.add_argument("position", metavar="POSITION", help="a window's position in the plan")
-    parser.forms()
-
-
-def _same_arguments(parser) -> None:
-    parser.add_argument("first", metavar="PLAN", help="a plan file")
-    parser.add_argument("second", metavar="PLAN", help="another")
-    parser.exit_code("different")
-    parser.forms()
-
-
-COMMANDS = [
-    Command(
-        "chain",
-        "a shortest chain between two windows, from the later to the earlier",
-        _chain_arguments,
-        _chain,
-        ["poddreshi chain examples/plan-12.plan 1 5", "poddreshi chain year.plan 3 9 --names year.txt --origin 2026-01-01"],
-        "Of the shortest chains it is the one with the earliest window at each step. With --names or --origin there is a line "
-        "for each window: position, name, begin and end.",
-    ),
-    Command(
-        "neighbours",
-        "the windows that overlap one window",
-        _neighbours_arguments,
-        _neighbours,
-        ["poddreshi neighbours examples/plan-12.plan 2"],
-    ),
-    Command(
-        "reach",
-        "a bound on the handovers between any two windows of a window's component",
-        _reach_arguments,
-        _reach,
-        ["poddreshi reach examples/plan-12.plan 5"],
-        "It is a bound: no two windows are further apart, and perhaps no two are so far.",
-    ),
-    Command(
-        "same",
-        "whether the same pairs of windows overlap in two plans",
-        _same_arguments,
-        _same,
-        ["poddreshi same examples/plan-12.plan other.plan --exit-code"],
-        "Where they differ, the first position and the first window that overlaps it in one of the plans alone are named.",
-    ),
-]
+COMMANDS = [_chain, _neighbours, _reach, _same]

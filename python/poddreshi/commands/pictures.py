@@ -1,22 +1,20 @@
 """draw: a plan as a picture."""
-from typing import Optional, Tuple
+from typing import Tuple
 
 from .. import calls
-from ..commandline import Command, given
+from ..commandline import NAMES, ORIGIN, OUTPUT, PLAN, command, given, option, word
 from ..failures import Mistake
+from ..figures import END_LIMIT
 from ..given import Given
 from ..pictures import Scene, draw
 from ..replies import Reply
 
 
-def _span(args, plan: Given) -> Optional[Tuple[int, int]]:
-    """The minutes that are asked for, or None for all."""
-    if args.since is None and args.until is None:
-        return None
+def _span(args, plan: Given) -> Tuple[int, int]:
+    """The minutes that are asked for."""
     try:
         start = 0 if args.since is None else plan.clock.offset(args.since)
-        last = max((window.end for window in plan.windows), default=0)
-        end = max(last, start + 1) if args.until is None else plan.clock.offset(args.until)
+        end = max(END_LIMIT, start + 1) if args.until is None else plan.clock.offset(args.until)
     except ValueError as error:
         raise Mistake(str(error)) from None
     if start >= end:
@@ -24,6 +22,25 @@ def _span(args, plan: Given) -> Optional[Tuple[int, int]]:
     return start, end
 
 
+@command(
+    "draw",
+    "a picture of a plan (SVG), with a chain marked where two windows are named",
+    [
+        PLAN,
+        word("first", "a position, or a name; its chain to SECOND is marked", nargs="?"),
+        word("second", "a position, or a name", nargs="?"),
+        option("--from", dest="since", metavar="TIME", help="leave out what lies before: a minute, or a date"),
+        option("--to", dest="until", metavar="TIME", help="leave out what lies after"),
+        option("--whole", action="store_true", help="show all windows, also beside a chain"),
+        *(NAMES, ORIGIN, OUTPUT),
+    ],
+    [
+        "poddreshi draw examples/plan-12.plan -o plan-12.svg",
+        "poddreshi draw examples/plan-12.plan 1 5 -o chain.svg",
+        "poddreshi draw year.plan --origin 2026-01-01 --from 2026-02-01 --to 2026-04-01 -o spring.svg",
+    ],
+    "With two windows the picture shows their components alone. Stretches with no window are cut out, with a mark.",
+)
 def _draw(args) -> Reply:
     if (args.first is None) != (args.second is None):
         raise Mistake("draw takes a plan, and two positions where a chain is to be marked")
@@ -35,34 +52,9 @@ def _draw(args) -> Reply:
         chain = calls.chain(plan.file, *ends).positions
         near = {tree.component_of[end] for end in ends}
         shown = [at for at in shown if args.whole or tree.component_of[at] in near]
-    span = _span(args, plan)
-    if span:
-        shown = [at for at in shown if plan.windows[at].offset < span[1] and plan.windows[at].end > span[0]]
-    return Reply(content=draw(Scene(plan, tree, shown, ends, chain, span)).encode())
+    start, end = _span(args, plan)
+    shown = [at for at in shown if plan.windows[at].offset < end and plan.windows[at].end > start]
+    return Reply(content=draw(Scene(plan, tree, shown, ends, chain, (start, end))).encode())
 
 
-def _draw_arguments(parser) -> None:
-    parser.plan()
-    parser.add_argument("first", metavar="FIRST", nargs="?", help="a position, or a name; its chain to SECOND is marked")
-    parser.add_argument("second", metavar="SECOND", nargs="?", help="a position, or a name")
-    parser.add_argument("--from", dest="since", metavar="TIME", help="leave out what lies before: a minute, or a date")
-    parser.add_argument("--to", dest="until", metavar="TIME", help="leave out what lies after")
-    parser.add_argument("--whole", action="store_true", help="show all windows, also beside a chain")
-    parser.names()
-    parser.output()
-
-
-COMMANDS = [
-    Command(
-        "draw",
-        "a picture of a plan (SVG), with a chain marked where two windows are named",
-        _draw_arguments,
-        _draw,
-        [
-            "poddreshi draw examples/plan-12.plan -o plan-12.svg",
-            "poddreshi draw examples/plan-12.plan 1 5 -o chain.svg",
-            "poddreshi draw year.plan --origin 2026-01-01 --from 2026-02-01 --to 2026-04-01 -o spring.svg",
-        ],
-        "With two windows the picture shows their components alone. Stretches with no window are cut out, with a mark.",
-    ),
-]
+COMMANDS = [_draw]

@@ -2,10 +2,9 @@
 import subprocess
 
 from .. import files, places, texts
-from ..commandline import Command, given, number, reading
-from ..failures import REFUSED, Failure
+from ..commandline import NAMES, ORIGIN, OUTPUT, PLAN, command, forms, given, number, option, reading, word
+from ..failures import Failure
 from ..figures import PLAN_LIMIT, PLAN_NUMBER_LIMIT, TEXT_LIMIT
-from ..given import Given
 from ..refusals import Asked, refusal
 from ..replies import Reply
 from ..times import Clock
@@ -26,6 +25,14 @@ def _listed(file: bytes) -> str:
     return done.stdout.decode("ascii")
 
 
+@command(
+    "list",
+    "the distance tree of a plan",
+    [PLAN, forms()],
+    ["poddreshi list examples/plan-12.plan", "poddreshi plan 31 examples/plan-31.txt | poddreshi list -"],
+    "First PLAN WINDOWS COMPONENTS, then for each window its position, parent (a root's is its own), component, depth, "
+    "rank and rank of the last. A refusal is the line `refused NUMBER POSITION` on standard output.",
+)
 def _list(args) -> Reply:
     file = files.read(args.plan, PLAN_LIMIT)
     text = _listed(file)
@@ -34,12 +41,19 @@ def _list(args) -> Reply:
         if args.form != "text":
             raise refusal(first[0], 0, first[1], Asked(plans=[file]))
         args.output = None  # the line that paper 01 fixes is for standard output, and a file stays as it was
-        return Reply(text, status=REFUSED)
+        return Reply(text, refused=True)
     data = dict(zip(("plan", "windows", "components"), first), tree=[dict(zip(_COLUMNS, row)) for row in rows])
     return Reply(text, _COLUMNS, rows, data)
 
 
-def _text_reply(plan: Given) -> Reply:
+@command(
+    "text",
+    "the text of a plan, from which `plan` makes it again",
+    [PLAN, NAMES, ORIGIN, forms()],
+    ["poddreshi text examples/plan-12.plan", "poddreshi text year.plan --origin 2026-01-01 --names examples/year.txt --csv"],
+)
+def _text(args) -> Reply:
+    plan = given(args)
     unit = "offset and length in minutes" if plan.clock.origin is None else "begin and length"
     heading = f"# plan {plan.number}, {counted(len(plan.windows), 'window')}: {unit}\n"
     rows = [
@@ -51,6 +65,25 @@ def _text_reply(plan: Given) -> Reply:
     return Reply(text, ("offset", "length", "name"), rows, data)
 
 
+@command(
+    "plan",
+    "a plan file from a planner's text",
+    [
+        word("number", "the plan number, 0 to 65,535"),
+        word("text", "a planner's text"),
+        option("--sort", action="store_true", help="put the windows in order of their offsets"),
+        option("--empty", action="store_true", help="accept a text with no window"),
+        *(ORIGIN, OUTPUT),
+    ],
+    [
+        "poddreshi plan 31 examples/plan-31.txt -o plan-31.plan",
+        "poddreshi plan 40 examples/year.txt --origin 2026-01-01 --sort -o year.plan",
+    ],
+    "A line has an offset and a length in minutes and may have a name: `1440 480 North pier`. With --origin an offset may "
+    "be a date and a length have units: `2026-02-06 08:00 48h North pier`. What follows a # is left out, and a name in "
+    "double quotes may hold one. A text whose first line is `offset,length,name` is CSV (also with ; or tabs). Every line "
+    "that is wrong is named, and then nothing is written.",
+)
 def _plan(args) -> Reply:
     plan_number = number(args.number, PLAN_NUMBER_LIMIT, "a plan number")
     with reading(args.text):
@@ -59,55 +92,4 @@ def _plan(args) -> Reply:
     return Reply(content=file)
 
 
-def _list_arguments(parser) -> None:
-    parser.plan()
-    parser.forms()
-
-
-def _text_arguments(parser) -> None:
-    parser.plan()
-    parser.names()
-    parser.forms()
-
-
-def _plan_arguments(parser) -> None:
-    parser.add_argument("number", metavar="NUMBER", help="the plan number, 0 to 65,535")
-    parser.add_argument("text", metavar="TEXT", help="a planner's text")
-    parser.add_argument("--sort", action="store_true", help="put the windows in order of their offsets")
-    parser.add_argument("--empty", action="store_true", help="accept a text with no window")
-    parser.origin()
-    parser.output()
-
-
-COMMANDS = [
-    Command(
-        "list",
-        "the distance tree of a plan",
-        _list_arguments,
-        _list,
-        ["poddreshi list examples/plan-12.plan", "poddreshi plan 31 examples/plan-31.txt | poddreshi list -"],
-        "First PLAN WINDOWS COMPONENTS, then for each window its position, parent (a root's is its own), component, depth, "
-        "rank and rank of the last. A refusal is the line `refused NUMBER POSITION` on standard output.",
-    ),
-    Command(
-        "text",
-        "the text of a plan, from which `plan` makes it again",
-        _text_arguments,
-        lambda args: _text_reply(given(args)),
-        ["poddreshi text examples/plan-12.plan", "poddreshi text year.plan --origin 2026-01-01 --names year.txt --csv"],
-    ),
-    Command(
-        "plan",
-        "a plan file from a planner's text",
-        _plan_arguments,
-        _plan,
-        [
-            "poddreshi plan 31 examples/plan-31.txt -o plan-31.plan",
-            "poddreshi plan 40 examples/year.txt --origin 2026-01-01 --sort -o year.plan",
-        ],
-        "A line has an offset and a length in minutes and may have a name: `1440 480 North pier`. With --origin an offset may "
-        "be a date and a length have units: `2026-02-06 08:00 48h North pier`. What follows a # is left out, and a name in "
-        "double quotes may hold one. A text whose first line is `offset,length,name` is CSV (also with ; or tabs). Every line "
-        "that is wrong is named, and then nothing is written.",
-    ),
-]
+COMMANDS = [_list, _text, _plan]

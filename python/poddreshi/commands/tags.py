@@ -3,8 +3,8 @@ from pathlib import Path
 from typing import Optional
 
 from .. import calls, files
-from ..commandline import Command, number, once
-from ..failures import ANSWERED, OTHERWISE, REFUSED, Failure, Mistake
+from ..commandline import OUTPUT, PLAN, command, exit_code, forms, number, once, option, word
+from ..failures import Failure, Mistake
 from ..figures import PLAN_LIMIT, TAG_FIELDS, TAG_LENGTH, TAGS_LIMIT
 from ..refusals import Refused
 from ..replies import Reply, aligned
@@ -14,6 +14,13 @@ def _tag_file(name: str) -> bytes:
     return files.read_whole(name, TAGS_LIMIT, "tag file")
 
 
+@command(
+    "tags",
+    "the tag file of a plan, ten bytes for each window",
+    [PLAN, option("--into", metavar="DIR", help="a file of ten bytes for each window, 0000.tag and on, in a new folder"), OUTPUT],
+    ["poddreshi tags examples/plan-12.plan -o plan-12.tags", "poddreshi tags examples/plan-12.plan --into cabinets"],
+    "The folder of --into is new or empty, so that no cabinet is left with the tag of an older plan.",
+)
 def _tags(args) -> Reply:
     made = calls.tags(files.read(args.plan, PLAN_LIMIT))
     if args.into is None:
@@ -29,11 +36,27 @@ def _tags(args) -> Reply:
     return Reply(f"{made}: a tag for each in {args.into}")
 
 
+@command(
+    "tag",
+    "one tag of a tag file, ten bytes",
+    [word("tags", "a tag file"), word("position", "a window's position in the plan"), OUTPUT],
+    ["poddreshi tag plan-12.tags 4 -o 4.tag"],
+)
 def _tag(args) -> Reply:
     at = number(args.position)
     return Reply(content=calls.lookup(_tag_file(args.tags), at))
 
 
+@command(
+    "explain",
+    "the five numbers of a tag",
+    [
+        word("tag", "a tag, or a tag file where a position follows"),
+        word("position", "a position in the tag file", nargs="?"),
+        forms(),
+    ],
+    ["poddreshi explain 4.tag", "poddreshi explain plan-12.tags 4"],
+)
 def _explain(args) -> Reply:
     if args.position is None:
         tag = files.read(args.tag, TAG_LENGTH)
@@ -44,6 +67,23 @@ def _explain(args) -> Reply:
     return Reply(text, fields._fields, [fields], fields._asdict())
 
 
+@command(
+    "count",
+    "the least number of handovers between two windows, from their tags alone",
+    [
+        word("tags", "a tag file, or the first of two tags"),
+        word("first", "a position, or the second of two tags"),
+        word("second", "a position", nargs="?"),
+        option("--all", action="store_true", help="between one position and every position of the tag file"),
+        *(exit_code("no chain"), forms()),
+    ],
+    [
+        "poddreshi count cabinets/0004.tag cabinets/0005.tag",
+        "poddreshi count plan-12.tags 1 5",
+        "poddreshi count plan-12.tags 1 --all --csv",
+    ],
+    usage="\n       ".join(f"%(prog)s [options] {form}" for form in ("TAG TAG", "TAGS FIRST SECOND", "TAGS FIRST --all")),
+)
 def _count(args) -> Reply:
     if args.all:
         if args.second is not None:
@@ -60,8 +100,8 @@ def _count(args) -> Reply:
 def _counted(answer: calls.Handovers, first: Optional[int] = None, second: Optional[int] = None) -> Reply:
     named = {} if first is None else {"first": first, "second": second}
     row = [*named.values(), str(answer) if answer.count is None else answer.count]
-    status = OTHERWISE if answer.count is None else ANSWERED
-    return Reply(str(answer), (*named, "handovers"), [row], {**named, "handovers": answer.count}, status=status)
+    data = {**named, "handovers": answer.count}
+    return Reply(str(answer), tuple(data), [row], data, otherwise=answer.count is None)
 
 
 def _count_all(tags: bytes, first: int) -> Reply:
@@ -78,68 +118,8 @@ def _count_all(tags: bytes, first: int) -> Reply:
         shown.append((str(second), words))
         data.append(row)
         rows.append((first, second, words if row.get("handovers") is None else row["handovers"]))
-    status = REFUSED if faults else ANSWERED
-    data = {"first": first, "counts": data}
-    return Reply(aligned(shown, right=(0,)), ("first", "second", "handovers"), rows, data, status=status, faults=faults)
+    header, apart = ("first", "second", "handovers"), any(row.get("handovers") is None for row in data)
+    return Reply(aligned(shown, right=(0,)), header, rows, {"first": first, "counts": data}, otherwise=apart, faults=faults)
 
 
-def _tags_arguments(parser) -> None:
-    parser.plan()
-    parser.add_argument("--into", metavar="DIR", help="a file of ten bytes for each window, 0000.tag and on, in a new folder")
-    parser.output()
-
-
-def _tag_arguments(parser) -> None:
-    parser.add_argument("tags", metavar="TAGS", help="a tag file")
-    parser.add_argument("position", metavar="POSITION", help="a window's position in the plan")
-    parser.output()
-
-
-def _explain_arguments(parser) -> None:
-    parser.add_argument("tag", metavar="TAG", help="a tag, or a tag file where a position follows")
-    parser.add_argument("position", metavar="POSITION", nargs="?", help="a position in the tag file")
-    parser.forms()
-
-
-def _count_arguments(parser) -> None:
-    forms = ("TAG TAG", "TAGS FIRST SECOND", "TAGS FIRST --all")
-    parser.usage = "\n       ".join(f"poddreshi count [options] {form}" for form in forms)
-    parser.add_argument("tags", metavar="TAGS", help="a tag file, or the first of two tags")
-    parser.add_argument("first", metavar="FIRST", help="a position, or the second of two tags")
-    parser.add_argument("second", metavar="SECOND", nargs="?", help="a position")
-    parser.add_argument("--all", action="store_true", help="between one position and every position of the tag file")
-    parser.exit_code("no chain")
-    parser.forms()
-
-
-COMMANDS = [
-    Command(
-        "tags",
-        "the tag file of a plan, ten bytes for each window",
-        _tags_arguments,
-        _tags,
-        ["poddreshi tags examples/plan-12.plan -o plan-12.tags", "poddreshi tags examples/plan-12.plan --into cabinets"],
-        "The folder of --into is new or empty, so that no cabinet is left with the tag of an older plan.",
-    ),
-    Command(
-        "tag",
-        "one tag of a tag file, ten bytes",
-        _tag_arguments,
-        _tag,
-        ["poddreshi tag plan-12.tags 4 -o 4.tag"],
-    ),
-    Command(
-        "explain",
-        "the five numbers of a tag",
-        _explain_arguments,
-        _explain,
-        ["poddreshi explain 4.tag", "poddreshi explain plan-12.tags 4"],
-    ),
-    Command(
-        "count",
-        "the least number of handovers between two windows, from their tags alone",
-        _count_arguments,
-        _count,
-        ["poddreshi count 4.tag 5.tag", "poddreshi count plan-12.tags 1 5", "poddreshi count plan-12.tags 1 --all --csv"],
-    ),
-]
+COMMANDS = [_tags, _tag, _explain, _count]
