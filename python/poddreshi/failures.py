@@ -13,4 +13,5 @@ class Failure(Exception):
 
     @classmethod
     def of(cls, what: str, error: OSError) -> "Failure":
+        what = what or "a file with no name"
         return cls(f"{what}: {(error.strerror or os.strerror(error.errno or 0)).lower()}")

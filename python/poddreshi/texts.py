@@ -155,7 +155,8 @@ def _cells(line: str) -> List[str]:
 def _entry(row: Row, clock: Clock) -> Entry:
     offset, length, name = row.cells
     if not offset or not length:
-        raise ValueError("a line has an offset and a length, and may have a name")
+        hint = "; CSV begins with a line offset,length,name" if set(offset) & set(",;") else ""
+        raise ValueError(f"a line has an offset and a length, and may have a name{hint}")
     window = Window(clock.offset(offset), times.length(length))
     for number, what in zip(window, ("an offset", "a length")):
         if number > NUMBER_LIMIT:

@@ -248,6 +248,7 @@ class Commands(Case):
     def test_inputs_that_fail(self):
         self.fails(3, "list", "nowhere.plan", about="poddreshi: nowhere.plan: no such file or directory")
         self.fails(3, "chain", self.folder, 0, 1, about="is a directory")
+        self.fails(3, "list", "", about="poddreshi: a file with no name: no such file or directory")
         self.fails(3, "plan", 1, "-", stdin=b"0 1\n" * 300_000, about="standard input: is longer than 1,048,576 bytes")
 
 

@@ -87,6 +87,9 @@ class Installed(Case):
     def test_a_prefix_that_cannot_be_written(self):
         self.fails(3, "install", "/proc/nowhere", about="no such file or directory")
 
+    def test_a_prefix_that_is_not_set(self):
+        self.fails(2, "install", "", about="PREFIX is the name of a folder")
+
 
 if __name__ == "__main__":
     unittest.main()

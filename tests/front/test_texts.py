@@ -87,6 +87,10 @@ class Faults(unittest.TestCase):
         for line in ("\0\0", "x" * 200_000, '"' * 9, ",;\t"):
             self.assertEqual(len(faults(line)), 1)
 
+    def test_csv_without_its_header(self):
+        told = "line 1: a line has an offset and a length, and may have a name; CSV begins with a line offset,length,name"
+        self.assertEqual(faults("0,10,North\n"), [told])
+
     def test_order_behind_an_end_that_is_too_late(self):
         self.assertEqual(faults("10000000 1\n5 1\n"), [
             "line 1: refused by question 5: window 0 of the plan ends at 10,000,001; an end is at most 10,000,000",

@@ -1,7 +1,7 @@
 """build, install: in a checkout alone."""
 from .. import building, installing, places
 from ..commandline import command, word
-from ..failures import Failure
+from ..failures import Failure, Mistake
 from ..replies import Reply
 
 
@@ -25,6 +25,8 @@ def _build(args) -> Reply:
     "The tree runs on a computer with no prover and no compiler, and may be moved.",
 )
 def _install(args) -> Reply:
+    if not args.prefix:  # as a variable that is not set
+        raise Mistake("PREFIX is the name of a folder")
     root = places.checkout()
     built = building.ensure(root)
     try:
