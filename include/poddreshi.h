@@ -1,7 +1,8 @@
 /* Poddreshi: service windows, their distance tree and ten-byte tags. The C interface (C99).
  *
  * Link target/staticlib/libpoddreshi.a, which `rt staticlib poddreshi` writes. Beside it is needed only the C library's
- * memset. It keeps no state, allocates nothing, uses at most some 21 kB of stack and may be called from any thread.
+ * memset. It keeps no state, allocates nothing and may be called from any thread. poddreshi_tags uses at most 38 kB of stack, the calls
+ * on two tags and on a tag file some bytes, and all others at most 17 kB.
  *
  * THE ANSWER of every call is one number of 64 bits: four fields of 16 bits, the lowest first. The first field is the kind.
  * A refusal has kind PODDRESHI_REFUSED in every call, and then the question's number (1 to 12), the input at fault (0 the
@@ -28,7 +29,7 @@
 #define PODDRESHI_H
 
 /* The version of the library that this header belongs to. */
-#define PODDRESHI_VERSION "1.0.0"
+#define PODDRESHI_VERSION "1.0.1"
 
 #include <stddef.h>
 #include <stdint.h>

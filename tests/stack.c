@@ -1,0 +1,76 @@
+/* How much stack each call of the library uses on a plan of 2,048 windows, held to what include/poddreshi.h says: a thread runs the call
+ * on memory that was painted beforehand, and what is no longer as it was painted has been used. */
+#define _POSIX_C_SOURCE 200809L
+#include "poddreshi.h"
+#include <pthread.h>
+#include <stdio.h>
+#include <stdlib.h>
+#include <string.h>
+
+enum { WINDOWS = 2048, STACK = 1 << 20, PAINT = 0xA5 };
+
+static unsigned char plan[4 + 8 * WINDOWS], tags[10 * WINDOWS];
+static uint16_t tables[5][WINDOWS];
+
+static void nothing(void) {}
+static void validate(void) { poddreshi_validate(plan, sizeof plan); }
+static void build(void) {
+    poddreshi_build(plan, sizeof plan, tables[0], WINDOWS, tables[1], WINDOWS, tables[2], WINDOWS, tables[3], WINDOWS, tables[4],
+                    WINDOWS, tags, sizeof tags);
+}
+static void tag_file(void) { poddreshi_tags(plan, sizeof plan, tags, sizeof tags); }
+static void reach(void) { poddreshi_reach(plan, sizeof plan, 5); }
+static void chain(void) { poddreshi_chain(plan, sizeof plan, 0, WINDOWS - 1, tables[0], WINDOWS); }
+static void neighbours(void) { poddreshi_neighbours(plan, sizeof plan, 5, tables[0], WINDOWS); }
+static void same(void) { poddreshi_same(plan, sizeof plan, plan, sizeof plan); }
+static void pair(void) { poddreshi_pair(tags, 10, tags + 10, 10); }
+static void pair_at(void) { poddreshi_pair_at(tags, sizeof tags, 3, 700); }
+
+static const struct { const char *name; void (*call)(void); long most; } calls[] = {
+    {"nothing", nothing, 0},           {"validate", validate, 17000}, {"build", build, 17000}, {"tags", tag_file, 38000},
+    {"reach", reach, 17000},           {"chain", chain, 17000},       {"same", same, 17000},   {"pair", pair, 100},
+    {"neighbours", neighbours, 17000}, {"pair_at", pair_at, 100},
+};
+
+static void *run(void *call) {
+    (*(void (**)(void))call)();
+    return NULL;
+}
+
+/* The bytes of a painted stack that a thread has used for a call. */
+static long used(void (*call)(void)) {
+    unsigned char *stack = aligned_alloc(4096, STACK);
+    pthread_attr_t attributes;
+    pthread_t thread;
+    long left = 0;
+    memset(stack, PAINT, STACK);
+    if (pthread_attr_init(&attributes) || pthread_attr_setstack(&attributes, stack, STACK) ||
+        pthread_create(&thread, &attributes, run, &call) || pthread_join(thread, NULL))
+        exit(2);
+    while (stack[left] == PAINT) left++;
+    free(stack);
+    return STACK - left;
+}
+
+int main(void) {
+    int bad = 0;
+    long thread = 0;
+    plan[0] = 12;
+    plan[2] = WINDOWS & 255;
+    plan[3] = WINDOWS >> 8;
+    for (unsigned v = 0; v < WINDOWS; v++) { /* a staircase: each window overlaps the next two */
+        plan[4 + 8 * v] = 2 * v & 255;
+        plan[5 + 8 * v] = 2 * v >> 8;
+        plan[8 + 8 * v] = 5;
+    }
+    for (size_t i = 0; i < sizeof calls / sizeof calls[0]; i++) {
+        long bytes = used(calls[i].call);
+        if (i == 0) thread = bytes; /* what the thread takes for itself */
+        if (bytes - thread > calls[i].most) {
+            printf("stack: %s uses %ld bytes, more than %ld\n", calls[i].name, bytes - thread, calls[i].most);
+            bad = 1;
+        }
+    }
+    if (!bad) printf("stack: every call within what the header says\n");
+    return bad;
+}
