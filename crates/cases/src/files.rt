@@ -1,21 +1,10 @@
-// Plan files and tags from the numbers of a text, to try the calls on.
+// Plan files from the numbers of a text, to try the calls on.
 use crate::lines::next_word;
 use crate::lines::number_at;
 use plan::GREATEST_COUNT;
 use plan::HEADER_LENGTH;
 use plan::WINDOW_LENGTH;
 use plan::Window;
-
-// A tag's five numbers, which stand in the text from a place on.
-pub(crate) fn put_tag(tag: &mut [u8], text: &[u8], from: usize) {
-    let mut at = from;
-    let mut field = 0;
-    while field < 5 {
-        wire::write_u16(tag, field * 2, (number_at(text, at) % 65536) as u16);
-        at = next_word(text, at);
-        field += 1;
-    }
-}
 
 // The window whose offset stands at a place, and its length behind it.
 fn window_at(text: &[u8], at: usize) -> Window {

@@ -7,8 +7,6 @@
 //       two positions of plan 12; their tags' pair, the build, and the chain with its table
 //   window POSITION
 //       one position of plan 12; its neighbours with their table, and its reach
-//   tag PLAN COMPONENT DEPTH RANK LAST
-//       the tag of window 2 of plan 12 and another; their pair in both orders
 // An answer is its kind and three numbers. 0: refused; 2: built; 3: reach; 4: chain; 5: no chain; 6: neighbours; 9: handovers.
 mod files;
 mod lines;

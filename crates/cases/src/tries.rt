@@ -9,7 +9,6 @@ use plan::HEADER_LENGTH;
 use plan::WINDOW_LENGTH;
 use poddreshi::poddreshi_chain;
 use poddreshi::poddreshi_neighbours;
-use poddreshi::poddreshi_pair;
 use poddreshi::poddreshi_pair_at;
 use poddreshi::poddreshi_reach;
 use poddreshi::poddreshi_tags;
@@ -17,9 +16,6 @@ use tag_bytes::Tag;
 
 // One byte more than any plan, so that a file that is too long is among the cases.
 const BUFFER_LENGTH: usize = HEADER_LENGTH + WINDOW_LENGTH * GREATEST_COUNT + 1;
-
-// The tag of window 2 of plan 12: plan 12, component 0, depth 1, rank 3, rank of the last 2.
-const TAG_2: [u8; Tag::LENGTH] = [12, 0, 0, 0, 1, 0, 3, 0, 2, 0];
 
 // The build of a file and the chain between two positions in it.
 fn try_plan(file: &[u8], first: usize, second: usize) {
@@ -68,20 +64,6 @@ fn try_plan_12(pair: bool, first: usize, second: usize) {
     }
 }
 
-// Two tags in both orders.
-fn try_orders(first: &[u8], second: &[u8]) {
-    print_answer(poddreshi_pair(first, second));
-    print_answer(poddreshi_pair(second, first));
-}
-
-// A tag beside that of window 2 of plan 12.
-fn try_tag(text: &[u8], at: usize) {
-    let first = TAG_2;
-    let mut second = [0; Tag::LENGTH];
-    files::put_tag(&mut second, text, at);
-    try_orders(&first, &second);
-}
-
 // The line that begins at a place, by its first letter. One that is no case, as a comment, is put to nothing.
 pub(crate) fn try_line(text: &[u8], start: usize) {
     if start < text.len() {
@@ -92,7 +74,6 @@ pub(crate) fn try_line(text: &[u8], start: usize) {
             b'f' => try_file(text, at),
             b'p' => try_plan_12(true, first, number_at(text, next_word(text, at)) as usize),
             b'w' => try_plan_12(false, first, first),
-            b't' => try_tag(text, at),
             _ => {}
         }
     }

@@ -5,6 +5,7 @@ use Prim.Native.Nat.{_-_, _≤_}
 use mathlib.Core.Path.{_≡_}
 use lib.ListN.{length}
 use Rattle.plan.specs.Validation.{greatestCount}
+use native.Mathlib.Omega.{arith}
 use borrow.Author.Needs.{needs}
 use Rattle.cases.proofs.files.put_plan.Statement.{statement}
 use Rattle.cases.proofs.files.put_plan.Tie as tie
@@ -22,7 +23,7 @@ write-u16-requires-2 : tie.Need-write-u16-requires-2 Inv-loop μ-loop
 write-u16-requires-2 c κs = search needs
 
 loop-holds : tie.Need-loop-holds Inv-loop μ-loop
-loop-holds c = search needs
+loop-holds c = omega arith
 
 stair-requires : tie.Need-stair-requires Inv-loop μ-loop
 stair-requires c κs = search needs
@@ -37,22 +38,22 @@ next-word-requires-2 : tie.Need-next-word-requires-2 Inv-loop μ-loop
 next-word-requires-2 c κs = search needs
 
 mul-write-window : tie.Need-mul-write-window Inv-loop μ-loop
-mul-write-window c = search needs
+mul-write-window c = omega arith
 
 add-write-window : tie.Need-add-write-window Inv-loop μ-loop
-add-write-window c = search needs
+add-write-window c = omega arith
 
 write-window-requires : tie.Need-write-window-requires Inv-loop μ-loop
 write-window-requires c κs = search needs
 
 add-position : tie.Need-add-position Inv-loop μ-loop
-add-position c = search needs
+add-position c = omega arith
 
 loop-less : tie.Need-loop-less Inv-loop μ-loop
-loop-less c = search needs
+loop-less c = omega arith
 
 loop-again : tie.Need-loop-again Inv-loop μ-loop
-loop-again c = search needs
+loop-again c = omega arith
 
 same-length : tie.Need-same-length Inv-loop μ-loop
 same-length c = search needs
