@@ -39,6 +39,16 @@ module _ {n : ℕ} {overlaps : ℕ → ℕ → Bool} (ok : IntervalOrder n overl
       shallower-earlier ok (last n overlaps u) (ancestor overlaps i v) (last-below ok u (omega (arith, p .order, p .window)))
       (last-root ok u (omega (arith, p .order, p .window)) ∙ sym (level-root u v D i p)) (omega (arith, level-depth u v D i k p e))
 
+  -- Where u stands before w, the parent of w is not behind u.
+  pub parent-before : (u v D : ℕ) → Pair n overlaps u v D → u < ancestor overlaps D v → parent overlaps (ancestor overlaps D v) ≤ u
+  parent-before u v D p h =
+      let w = ancestor overlaps D v in let r = level-root u v D D p in let d = level-depth u v D D 0 p (omega arith) in
+      let b : parent overlaps w < n = omega (arith, parent-le overlaps w, ancestor-le (tree overlaps) D v, p .window) in
+      ⊎-elim (λ l. let s = root-of-parent (tree overlaps) w ∙ r in
+      omega (arith, shallower-earlier ok (parent overlaps w) u b s (omega (arith, depth-step (tree overlaps) w l, d))))
+      (λ l. absurd (omega (arith, fixed-is-root (tree overlaps) w (omega (arith, parent-le overlaps w)), r, root-le (tree overlaps) u)))
+      (lt-or-ge (parent overlaps w) w)
+
   -- climb
 
   -- Where u stands before w, and w is at most the last of u, one climbs D steps.
@@ -56,15 +66,6 @@ module _ {n : ℕ} {overlaps : ℕ → ℕ → Bool} (ok : IntervalOrder n overl
       let above : parent overlaps (ancestor overlaps D v) ≤ u = parent-before u v D p h in
       let enough = climb-le n overlaps u v (suc D) (omega (arith, ancestor-suc (tree overlaps) D v, last-ge ok u)) in
       omega (arith, climb-gt n overlaps u v D (climb-le-position ok u v (p .one-root)) g, enough)
-    where
-      parent-before : (u v D : ℕ) → Pair n overlaps u v D → u < ancestor overlaps D v → parent overlaps (ancestor overlaps D v) ≤ u
-      parent-before u v D p h =
-          let w = ancestor overlaps D v in let r = level-root u v D D p in let d = level-depth u v D D 0 p (omega arith) in
-          let b : parent overlaps w < n = omega (arith, parent-le overlaps w, ancestor-le (tree overlaps) D v, p .window) in
-          ⊎-elim (λ l. let s = root-of-parent (tree overlaps) w ∙ r in
-          omega (arith, shallower-earlier ok (parent overlaps w) u b s (omega (arith, depth-step (tree overlaps) w l, d))))
-          (λ l. absurd (omega (arith, fixed-is-root (tree overlaps) w (omega (arith, parent-le overlaps w)), r, root-le (tree overlaps) u)))
-          (lt-or-ge (parent overlaps w) w)
 
   -- Where the ancestor below w is at most the last of u, one climbs one step less than to w.
   pub climb-below-level : (u v D : ℕ) → Pair n overlaps u v (suc D) → ancestor overlaps D v ≤ last n overlaps u → climb n overlaps u v ≡ D

@@ -8,6 +8,7 @@
 --   Level, Rule                                that the rule on two windows' numbers gives the least count
 --   Bounds, Reach, Sameness                    how great the numbers become, and what they say of the whole
 --   Outcome                                    the rule on any two windows' numbers, in either order
+--   Even                                       where lasts do not fall, the rule on short tags says the same
 --   Plan12                                     the worked example, by computation
 pub mod Ancestor
 pub mod Depth
@@ -30,4 +31,5 @@ pub mod Bounds
 pub mod Reach
 pub mod Sameness
 pub mod Outcome
+pub mod Even
 pub mod Plan12

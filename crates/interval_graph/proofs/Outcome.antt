@@ -1,6 +1,6 @@
 -- Laws of the rule on the numbers of two windows, whatever plan they come from: what each of its cases says, that the order
 -- of the two does not count, and how large a count can be.
--- Vocabulary: between-*, equal-*, comesFirst-*, outcome-*.
+-- Vocabulary: between-*, short-*, equal-*, comesFirst-*, outcome-*.
 -- Assumes nothing.
 use Prim.Native.Nat.{ℕ, _+_, _-_, _≤_, _<_}
 use mathlib.Core.{Bool.true, Bool.false, Bool._&&_, Bool._||_, Path._≡_, Path.refl, Path.sym, Path.ap, Path._∙_}
@@ -9,7 +9,7 @@ use native.Mathlib.Omega.{arith}
 use lib.Dec.{ltb, leb, eqb}
 use borrow.Author.Tests.{ltb-true, leb-true, eqb-true, eqb-false, lt-ltb, le-ltb, le-leb, lt-leb, eq-eqb, ne-eqb}
 use Rattle.sequences.proofs.Tests.{truth, cond-cases, lt-or-ge, true-false-absurd, and-left, and-right, and-intro, or-cases, or-left, or-right, eqb-symmetric}
-use Rattle.interval_graph.specs.Numbers.{Numbers, apart, no-chain, equal, comesFirst, between, outcome}
+use Rattle.interval_graph.specs.Numbers.{Numbers, apart, no-chain, equal, comesFirst, outcomeBy, between, outcome, shortBetween, shortOutcome}
 use Rattle.interval_graph.specs.Tree.{depth, rank}
 
 -- The four cases of the count for u before v. "Rising" is rank u < rank v.
@@ -46,6 +46,18 @@ module _ (u v : Numbers) where
       cond-cases (λ k. k ≤ v .depth - u .depth + 2) (ltb (u .rank) (v .rank))
       (λ s. cond-cases (λ k. k ≤ v .depth - u .depth + 2) (leb (v .rank) (u .last) || ltb (u .last) (u .rank)) (λ t. omega arith) (λ t. omega arith))
       (λ s. cond-cases (λ k. k ≤ v .depth - u .depth + 2) (leb (v .rank) (u .last) && ltb (u .last) (u .rank)) (λ t. omega arith) (λ t. omega arith))
+
+-- The two cases of the count by short tags.
+module _ (u v : Numbers) where
+  -- "D + 1 if rank u < rank v"
+  pub short-rising : u .rank < v .rank → shortBetween u v ≡ v .depth - u .depth + 1
+  unfolding shortBetween
+  short-rising rising = rw (lt-ltb _ _ rising)
+
+  -- "else D"
+  pub short-falling : v .rank ≤ u .rank → shortBetween u v ≡ v .depth - u .depth
+  unfolding shortBetween
+  short-falling falling = rw (le-ltb _ _ falling)
 
 -- For two windows of equal depth and rank, of which neither comes first, the count is 1 either way.
 pub between-level : (u v : Numbers) → u .depth ≡ v .depth → u .rank ≡ v .rank → between u v ≡ 1
@@ -100,57 +112,66 @@ module _ (u v : Numbers) where
       ⊎-elim (λ h. absurd (omega (arith, ltb-true (u .depth) (v .depth) h))) (λ h. ltb-true _ _ (and-right (eqb (u .depth) (v .depth)) _ h))
       (or-cases (ltb (u .depth) (v .depth)) _ t)
 
--- What the rule says of two windows, case by case.
-module _ (u v : Numbers) where
+-- What is said of two windows by whatever rule, case by case.
+module _ (rule : Numbers → Numbers → ℕ) (u v : Numbers) where
   -- "Equal tags give 0"
-  pub outcome-equal : equal u v ≡ true → outcome u v ≡ apart 0
-  unfolding outcome
+  pub outcome-equal : equal u v ≡ true → outcomeBy rule u v ≡ apart 0
+  unfolding outcomeBy
   outcome-equal t = rw t
 
   -- "different components no chain"
-  pub outcome-components : equal u v ≡ false → (u .component ≡ v .component → ⊥) → outcome u v ≡ no-chain
-  unfolding outcome
+  pub outcome-components : equal u v ≡ false → (u .component ≡ v .component → ⊥) → outcomeBy rule u v ≡ no-chain
+  unfolding outcomeBy
   outcome-components t other = rw (t, ne-eqb _ _ other)
 
   -- The count with u as the window that comes first.
-  pub outcome-first : equal u v ≡ false → u .component ≡ v .component → comesFirst u v ≡ true → outcome u v ≡ apart (between u v)
-  unfolding outcome
+  pub outcome-first : equal u v ≡ false → u .component ≡ v .component → comesFirst u v ≡ true → outcomeBy rule u v ≡ apart (rule u v)
+  unfolding outcomeBy
   outcome-first t one s = rw (t, eq-eqb _ _ one, s)
 
   -- The count with v as the window that comes first.
-  pub outcome-second : equal u v ≡ false → u .component ≡ v .component → comesFirst u v ≡ false → outcome u v ≡ apart (between v u)
-  unfolding outcome
+  pub outcome-second : equal u v ≡ false → u .component ≡ v .component → comesFirst u v ≡ false → outcomeBy rule u v ≡ apart (rule v u)
+  unfolding outcomeBy
   outcome-second t one s = rw (t, eq-eqb _ _ one, s)
 
--- The order in which two windows are named does not count.
-pub outcome-symmetric : (u v : Numbers) → outcome u v ≡ outcome v u
-outcome-symmetric u v =
-    ⊎-elim (λ t. outcome-equal u v t ∙ sym (outcome-equal v u (equal-symmetric v u ∙ t)))
+-- The order in which two windows are named does not count, where the rule does not mind it for two of equal depth and rank.
+outcome-turned : (rule : Numbers → Numbers → ℕ) → ((u v : Numbers) → u .depth ≡ v .depth → u .rank ≡ v .rank → rule u v ≡ rule v u) →
+    (u v : Numbers) → outcomeBy rule u v ≡ outcomeBy rule v u
+outcome-turned rule level u v =
+    ⊎-elim (λ t. outcome-equal rule u v t ∙ sym (outcome-equal rule v u (equal-symmetric v u ∙ t)))
     (λ t. ⊎-elim (λ one. one-component t (sym (equal-symmetric u v) ∙ t) (eqb-true _ _ one))
-    (λ two. outcome-components u v t (eqb-false _ _ two) ∙ sym (outcome-components v u (equal-symmetric v u ∙ t) (λ e. eqb-false _ _ two (sym e))))
+    (λ two. outcome-components rule u v t (eqb-false _ _ two) ∙ sym (outcome-components rule v u (equal-symmetric v u ∙ t) (λ e. eqb-false _ _ two (sym e))))
     (truth (eqb (u .component) (v .component)))) (truth (equal u v))
   where
     both : comesFirst u v ≡ true → comesFirst v u ≡ true → ⊥
     both s s′ =
-        let level : u .depth ≡ v .depth = omega (arith, comesFirst-depth u v s, comesFirst-depth v u s′) in
-        omega (arith, comesFirst-rank u v s level, comesFirst-rank v u s′ (sym level))
+        let depths : u .depth ≡ v .depth = omega (arith, comesFirst-depth u v s, comesFirst-depth v u s′) in
+        omega (arith, comesFirst-rank u v s depths, comesFirst-rank v u s′ (sym depths))
 
-    neither : comesFirst u v ≡ false → comesFirst v u ≡ false → between v u ≡ between u v
+    neither : comesFirst u v ≡ false → comesFirst v u ≡ false → rule v u ≡ rule u v
     neither s s′ =
-        let level : u .depth ≡ v .depth = omega (arith, comesFirst-not-depth u v s, comesFirst-not-depth v u s′) in
-        let ranks : u .rank ≡ v .rank = omega (arith, comesFirst-not-rank u v s level, comesFirst-not-rank v u s′ (sym level)) in
-        between-level v u (sym level) (sym ranks) ∙ sym (between-level u v level ranks)
+        let depths : u .depth ≡ v .depth = omega (arith, comesFirst-not-depth u v s, comesFirst-not-depth v u s′) in
+        let ranks : u .rank ≡ v .rank = omega (arith, comesFirst-not-rank u v s depths, comesFirst-not-rank v u s′ (sym depths)) in
+        level v u (sym depths) (sym ranks)
 
-    one-component : equal u v ≡ false → equal v u ≡ false → u .component ≡ v .component → outcome u v ≡ outcome v u
+    one-component : equal u v ≡ false → equal v u ≡ false → u .component ≡ v .component → outcomeBy rule u v ≡ outcomeBy rule v u
     one-component t t′ e =
-        ⊎-elim (λ s. outcome-first u v t e s
-        ∙ ⊎-elim (λ s′. absurd (both s s′)) (λ s′. sym (outcome-second v u t′ (sym e) s′)) (truth (comesFirst v u)))
-        (λ s. outcome-second u v t e s ∙ ⊎-elim (λ s′. sym (outcome-first v u t′ (sym e) s′))
-        (λ s′. ap apart (neither s s′) ∙ sym (outcome-second v u t′ (sym e) s′)) (truth (comesFirst v u))) (truth (comesFirst u v))
+        ⊎-elim (λ s. outcome-first rule u v t e s
+        ∙ ⊎-elim (λ s′. absurd (both s s′)) (λ s′. sym (outcome-second rule v u t′ (sym e) s′)) (truth (comesFirst v u)))
+        (λ s. outcome-second rule u v t e s ∙ ⊎-elim (λ s′. sym (outcome-first rule v u t′ (sym e) s′))
+        (λ s′. ap apart (neither s s′) ∙ sym (outcome-second rule v u t′ (sym e) s′)) (truth (comesFirst v u))) (truth (comesFirst u v))
+
+pub outcome-symmetric : (u v : Numbers) → outcome u v ≡ outcome v u
+outcome-symmetric = outcome-turned between (λ u v depth rank. between-level u v depth rank ∙ sym (between-level v u (sym depth) (sym rank)))
+
+pub short-symmetric : (u v : Numbers) → shortOutcome u v ≡ shortOutcome v u
+short-symmetric =
+    outcome-turned shortBetween
+    (λ u v depth rank. omega (arith, short-falling u v (omega arith), short-falling v u (omega arith)))
 
 -- A count is at most two more than the greater depth.
 pub outcome-most : (u v : Numbers) (depth k : ℕ) → u .depth ≤ depth → v .depth ≤ depth → outcome u v ≡ apart k → k ≤ depth + 2
-unfolding outcome
+unfolding outcomeBy
 outcome-most u v depth k hu hv =
     cond-cases (λ o. o ≡ apart k → k ≤ depth + 2) (equal u v) (λ t e. omega (arith, counts 0 e))
     (λ t. cond-cases (λ o. o ≡ apart k → k ≤ depth + 2) (eqb (u .component) (v .component))

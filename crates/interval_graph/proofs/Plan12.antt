@@ -8,7 +8,7 @@ use Rattle.sequences.specs.{Search.least, Search.greatest, Search.count, Search
 use Rattle.interval_graph.specs.Chain.{handovers, isChain, leads, joins, firstEntry, lastEntry}
 use Rattle.interval_graph.specs.Tree.{last, parent, depth, component, rank, lastRank}
 use Rattle.interval_graph.specs.{Walk.climb, Walk.walk, Walk.chainOf, Reach.lastInComponent, Reach.reach}
-use Rattle.interval_graph.specs.Numbers.{Outcome, numbersOf, apart, no-chain, equal, comesFirst, between, outcome}
+use Rattle.interval_graph.specs.Numbers.{Outcome, numbersOf, apart, no-chain, equal, comesFirst, outcomeBy, between, outcome, short, shortBetween, shortOutcome}
 use Rattle.interval_graph.specs.Forest as Forest
 
 unfoldable pub offsets : List ℕ
@@ -27,7 +27,7 @@ overlaps u v =
 unfoldable pub definitions : Unit {0}
 unfolding table overlaps offsets lengths last parent lastRank
     Forest.isRoot Forest.ancestor Forest.depth Forest.root Forest.component Forest.children Forest.postOrderTo Forest.postOrder Forest.rank
-    least greatest count passing indexOf flatMap outcome equal comesFirst between numbersOf handovers isChain leads joins firstEntry lastEntry
+    least greatest count passing indexOf flatMap outcomeBy equal comesFirst between numbersOf handovers isChain leads joins firstEntry lastEntry
 definitions = tt
 
 -- A line of the paper's listing after its position: parent, component, depth, rank, rank of the last.
@@ -94,3 +94,21 @@ plan-12-written = refl
 pub plan-12-reach : reach 7 overlaps 0 ∷ reach 7 overlaps 6 ∷ [] ≡ 4 ∷ 1 ∷ []
 unfolding definitions lastInComponent reach
 plan-12-reach = refl
+
+-- Why short tags are for even plans alone: the last of window 0 is 3 and that of window 1 is 2, so lasts fall, and the rule on short
+-- tags says 1 of windows 1 and 3, which are 2 apart.
+unfoldable pub short-answer : ℕ → ℕ → Outcome
+short-answer u v = shortOutcome (short (numbersOf 7 overlaps 12 u)) (short (numbersOf 7 overlaps 12 v))
+
+pub plan-12-lasts-fall : last 7 overlaps 0 ∷ last 7 overlaps 1 ∷ [] ≡ 3 ∷ 2 ∷ []
+unfolding definitions
+plan-12-lasts-fall = refl
+
+pub plan-12-short : short-answer 1 3 ∷ answer 1 3 ∷ [] ≡ apart 1 ∷ apart 2 ∷ []
+unfolding definitions answer short-answer short shortBetween
+plan-12-short = refl
+
+-- Where it is right: rank u < rank v, and not; the other component, and one window twice.
+pub plan-12-short-answers : short-answer 2 3 ∷ short-answer 5 2 ∷ short-answer 5 6 ∷ short-answer 6 6 ∷ [] ≡ apart 1 ∷ apart 2 ∷ no-chain ∷ apart 0 ∷ []
+unfolding definitions short-answer short shortBetween
+plan-12-short-answers = refl

@@ -12,7 +12,7 @@ use Rattle.sequences.proofs.Tests.{cond-cases, lt-or-ge, equal-or-not, truth, a
 use Rattle.interval_graph.specs.{Order.IntervalOrder, Chain.handovers, Chain.Joined, Chain.LeastHandovers}
 use Rattle.interval_graph.specs.Tree.{last, ancestor, depth, root, component, rank, lastRank}
 use Rattle.interval_graph.specs.Walk.{climb, walk, chainOf}
-use Rattle.interval_graph.specs.Numbers.{Numbers, numbersOf, apart, no-chain, equal, comesFirst, between, outcome}
+use Rattle.interval_graph.specs.Numbers.{Numbers, numbersOf, apart, no-chain, equal, comesFirst, outcomeBy, between, outcome}
 use Rattle.interval_graph.proofs.{Ancestor.ancestor-zero, Monotone.depth-monotone}
 use Rattle.interval_graph.proofs.Component.{root-component, component-root}
 use Rattle.interval_graph.proofs.Chains.{handovers-alone, least-handovers-joined}
@@ -23,13 +23,13 @@ use Rattle.interval_graph.proofs.Level.{Pair, climb-at-level, climb-pas
 use Rattle.interval_graph.proofs.Parent.{tree}
 
 -- Equal numbers agree in the component and in the rank.
-equal-component : (x y : Numbers) → equal x y ≡ true → x .component ≡ y .component
+pub equal-component : (x y : Numbers) → equal x y ≡ true → x .component ≡ y .component
 unfolding equal
 equal-component x y t =
     let r = eqb (x .depth) (y .depth) && (eqb (x .rank) (y .rank) && eqb (x .last) (y .last)) in eqb-true (x .component) (y .component)
     (and-left (eqb (x .component) (y .component)) r (and-right (eqb (x .plan) (y .plan)) (eqb (x .component) (y .component) && r) t))
 
-equal-rank : (x y : Numbers) → equal x y ≡ true → x .rank ≡ y .rank
+pub equal-rank : (x y : Numbers) → equal x y ≡ true → x .rank ≡ y .rank
 unfolding equal
 equal-rank x y t =
     let r = eqb (x .rank) (y .rank) && eqb (x .last) (y .last) in
@@ -121,19 +121,19 @@ module _ {n : ℕ} {overlaps : ℕ → ℕ → Bool} (ok : IntervalOrder n overl
       let c = chain-walk n overlaps u v (λ s. omega arith) (rw (p, q) (climb-le-position ok u v e)) in
       let w : chainOf n overlaps u v ≡ walk n overlaps u v = rw (p, q) at c in ap handovers w ∙ walk-handovers n overlaps u v
 
-  not-equal : (a b p : ℕ) → a < n → b < n → (a ≡ b → ⊥) → equal (numbersOf n overlaps p a) (numbersOf n overlaps p b) ≡ false
+  pub not-equal : (a b p : ℕ) → a < n → b < n → (a ≡ b → ⊥) → equal (numbersOf n overlaps p a) (numbersOf n overlaps p b) ≡ false
   not-equal a b p g l d =
       ⊎-elim (λ t. absurd (d (equal-window a b p p g l t))) (λ t. t) (truth (equal (numbersOf n overlaps p a) (numbersOf n overlaps p b)))
 
   -- The outcome for one window named twice, for two of one component, and for two of different components.
   outcome-self : (a p : ℕ) → outcome (numbersOf n overlaps p a) (numbersOf n overlaps p a) ≡ apart 0
-  unfolding outcome
+  unfolding outcomeBy
   outcome-self a p = rw (equal-self (numbersOf n overlaps p a))
 
   outcome-two : (a b p : ℕ) → a < n → b < n → (a ≡ b → ⊥) → root overlaps a ≡ root overlaps b → outcome (numbersOf n overlaps p a) (numbersOf n overlaps p b)
       ≡ apart (cond (comesFirst (numbersOf n overlaps p a) (numbersOf n overlaps p b))
       (between (numbersOf n overlaps p a) (numbersOf n overlaps p b)) (between (numbersOf n overlaps p b) (numbersOf n overlaps p a)))
-  unfolding outcome numbersOf
+  unfolding outcomeBy numbersOf
   outcome-two a b p g l d e =
       let t : equal (numbersOf n overlaps p a) (numbersOf n overlaps p b) ≡ false = not-equal a b p g l d in
       let s : eqb (component overlaps a) (component overlaps b) ≡ true = eq-eqb _ _ (root-component (tree overlaps) a b e) in rw (t, s)
@@ -153,7 +153,7 @@ module _ {n : ℕ} {overlaps : ℕ → ℕ → Bool} (ok : IntervalOrder n overl
   -- For windows of two components it is no chain.
   pub outcome-none : (a b p : ℕ) → a < n → b < n → (root overlaps a ≡ root overlaps b → ⊥) →
       outcome (numbersOf n overlaps p a) (numbersOf n overlaps p b) ≡ no-chain
-  unfolding outcome numbersOf
+  unfolding outcomeBy numbersOf
   outcome-none a b p g l d =
       let t : equal (numbersOf n overlaps p a) (numbersOf n overlaps p b) ≡ false = not-equal a b p g l (λ s. d (ap (root overlaps) s)) in
       let s : eqb (component overlaps a) (component overlaps b) ≡ false = ne-eqb _ _ (λ e. d (component-root (tree overlaps) a b e)) in

@@ -1,5 +1,5 @@
--- Paper 01, "Tag": the five numbers, and the rule on two tags, both on plain numbers.
--- Vocabulary: Numbers, numbersOf, Outcome, equal, comesFirst, between, outcome.
+-- Paper 01, "Tag": the five numbers, and the rule on two tags, both on plain numbers. Paper 02, Q-1: the same for short tags.
+-- Vocabulary: Numbers, numbersOf, Outcome, equal, comesFirst, outcomeBy, between, outcome; short, shortBetween, shortOutcome.
 use Prim.Native.Nat.{ℕ, _+_, _-_}
 use mathlib.Core.Bool.{Bool, cond, _&&_, _||_}
 use lib.Dec.{ltb, leb, eqb}
@@ -41,6 +41,12 @@ equal u v =
 unfoldable pub comesFirst : Numbers → Numbers → Bool
 comesFirst u v = ltb (u .depth) (v .depth) || (eqb (u .depth) (v .depth) && ltb (u .rank) (v .rank))
 
+-- "Equal tags give 0, different components no chain. Otherwise …" what a rule counts, with the tag that comes first in front.
+unfoldable pub outcomeBy : (Numbers → Numbers → ℕ) → Numbers → Numbers → Outcome
+outcomeBy rule u v =
+    cond (equal u v) (apart 0)
+    (cond (eqb (u .component) (v .component)) (apart (cond (comesFirst u v) (rule u v) (rule v u))) no-chain)
+
 -- "D is depth v − depth u.
 --  Rank u < rank v: D + 1 if rank v ≤ last u or last u < rank u; else D + 2.
 --  Rank u > rank v: D if rank v ≤ last u and last u < rank u; else D + 1."
@@ -51,8 +57,18 @@ between u v =
     (cond (leb (v .rank) (u .last) || ltb (u .last) (u .rank)) (D + 1) (D + 2))
     (cond (leb (v .rank) (u .last) && ltb (u .last) (u .rank)) D (D + 1))
 
--- "Equal tags give 0, different components no chain. Otherwise …"
-unfoldable pub outcome : Numbers → Numbers → Outcome
-outcome u v =
-    cond (equal u v) (apart 0)
-    (cond (eqb (u .component) (v .component)) (apart (cond (comesFirst u v) (between u v) (between v u))) no-chain)
+abbrev pub outcome : Numbers → Numbers → Outcome
+outcome u v = outcomeBy between u v
+
+-- Q-1: "an eight-byte tag (plan number, component, depth, rank)". It has no rank of the last, for which 0 stands here.
+unfoldable pub short : Numbers → Numbers
+short n = record { plan = n .plan; component = n .component; depth = n .depth; rank = n .rank; last = 0 }
+
+-- Q-1: "With u and v as before, a short pair of one component gives 0 if equal, D + 1 if rank u < rank v, else D."
+unfoldable pub shortBetween : Numbers → Numbers → ℕ
+shortBetween u v =
+    let D = v .depth - u .depth in
+    cond (ltb (u .rank) (v .rank)) (D + 1) D
+
+abbrev pub shortOutcome : Numbers → Numbers → Outcome
+shortOutcome u v = outcomeBy shortBetween u v

@@ -1,6 +1,6 @@
 -- Paper 01, "Tree": last, parent, and the forest of these parents.
--- Vocabulary: last, parent, isRoot, ancestor, depth, root, component, rank, lastRank.
-use Prim.Native.Nat.{ℕ}
+-- Vocabulary: last, parent, isRoot, ancestor, depth, root, component, rank, lastRank; LastsRise.
+use Prim.Native.Nat.{ℕ, suc, _≤_, _<_}
 use mathlib.Core.Bool.{Bool, _&&_}
 use lib.Dec.{ltb}
 use Rattle.sequences.specs.Search.{least, greatest}
@@ -36,3 +36,7 @@ rank n overlaps = Forest.rank n (parent overlaps)
 
 unfoldable pub lastRank : ℕ → (ℕ → ℕ → Bool) → ℕ → ℕ
 lastRank n overlaps v = rank n overlaps (last n overlaps v)
+
+-- Lasts do not fall from one window to the next: all that the short tags of paper 02, Q-1 need beside interval order.
+abbrev pub LastsRise : ℕ → (ℕ → ℕ → Bool) → Type 0
+LastsRise n overlaps = (v : ℕ) → suc v < n → last n overlaps v ≤ last n overlaps (suc v)

@@ -2,8 +2,10 @@
 --   File        plan number, windows, their offsets, lengths and ends; the file of a list of windows
 --   Overlap     the minutes that windows cover and share, and overlap
 --   Validation  questions 1 to 6
+--   Even        question 13: whether an end falls
 --   AcceptedWindows  an accepted plan with so many windows
 pub mod File
 pub mod Overlap
 pub mod Validation
+pub mod Even
 pub mod AcceptedWindows

@@ -1,8 +1,8 @@
-// A tag, read from its bytes: paper 01's questions 9 and 10.
+// A tag, long or short, read from its bytes: paper 01's questions 9 and 10.
 use refusals::Refusal;
 ghost use mathlib.Core.Path.{_≡_};
-ghost use Rattle.tag_bytes.specs.Fields.{tagOf, numbers, withinLimit};
-ghost use Rattle.tag_bytes.specs.Reading.{readAnswerOf, refusalOf};
+ghost use Rattle.tag_bytes.specs.Fields.{tagOf, numbers, withinLimit, shortTagOf, shortOf, withLast};
+ghost use Rattle.tag_bytes.specs.Reading.{readAnswerOf, refusalOf, shortReadAnswerOf, shortRefusalOf};
 
 // The five numbers of a window, which a reader answers from.
 pub struct Tag {
@@ -19,17 +19,36 @@ pub enum TagRead {
     Refused(Refusal),
 }
 
-// The five numbers of ten bytes, whatever they are.
-fn tag_of(bytes: &[u8]) -> Tag
-    ensures { λ r. ⌜ r ≡ tagOf (now (bytes .entry)) ⌝ }
+// The four numbers of a window of an even plan, which a reader of short tags answers from.
+pub struct ShortTag {
+    pub plan: u16,
+    pub component: u16,
+    pub depth: u16,
+    pub rank: u16,
+}
+
+pub enum ShortRead {
+    Valid(ShortTag),
+    Refused(Refusal),
+}
+
+// The four numbers of eight bytes, whatever they are.
+fn short_of(bytes: &[u8]) -> ShortTag
+    ensures { λ r. ⌜ r ≡ shortTagOf (now (bytes .entry)) ⌝ }
 {
-    Tag {
+    ShortTag {
         plan: wire::read_u16(bytes, 0),
         component: wire::read_u16(bytes, 2),
         depth: wire::read_u16(bytes, 4),
         rank: wire::read_u16(bytes, 6),
-        last: wire::read_u16(bytes, 8),
     }
+}
+
+// The five numbers of ten bytes, whatever they are.
+fn tag_of(bytes: &[u8]) -> Tag
+    ensures { λ r. ⌜ r ≡ tagOf (now (bytes .entry)) ⌝ }
+{
+    short_of(bytes).with_last(wire::read_u16(bytes, 8))
 }
 
 // Question 10. The plan number may be any number of two bytes.
@@ -69,6 +88,18 @@ impl Tag {
         TagRead::Valid(tag)
     }
 
+    // The short tag of the same window.
+    pub fn short(self) -> ShortTag
+        ensures { λ r. ⌜ r ≡ shortOf self ⌝ }
+    {
+        ShortTag {
+            plan: self.plan,
+            component: self.component,
+            depth: self.depth,
+            rank: self.rank,
+        }
+    }
+
     // The refusal of a reading, of the input named; all zeros where nothing was refused.
     pub fn refusal(read: TagRead, input: u8) -> Refusal
         ensures { λ r. ⌜ r ≡ refusalOf read input ⌝ }
@@ -76,6 +107,51 @@ impl Tag {
         match read {
             TagRead::Valid(_) => Refusal::by(0),
             TagRead::Refused(refusal) => refusal.from(input),
+        }
+    }
+}
+
+impl ShortTag {
+    // How many bytes a short tag has.
+    pub const LENGTH: usize = 8;
+
+    // The greatest number in a field after the plan number.
+    pub const FIELD_LIMIT: u16 = Tag::FIELD_LIMIT;
+
+    // The tag with these numbers and the rank of a last.
+    pub fn with_last(self, last: u16) -> Tag
+        ensures { λ r. ⌜ r ≡ withLast self last ⌝ }
+    {
+        Tag {
+            plan: self.plan,
+            component: self.component,
+            depth: self.depth,
+            rank: self.rank,
+            last,
+        }
+    }
+
+    // The short tag in its bytes, as `Tag::read`.
+    pub fn read(bytes: &[u8]) -> ShortRead
+        ensures { λ r. ⌜ r ≡ shortReadAnswerOf (now (bytes .entry)) ⌝ }
+    {
+        if bytes.len() != ShortTag::LENGTH {
+            return ShortRead::Refused(Refusal::by(9));
+        }
+        let tag = short_of(bytes);
+        if !within_limit(tag.with_last(0)) {
+            return ShortRead::Refused(Refusal::by(10));
+        }
+        ShortRead::Valid(tag)
+    }
+
+    // The refusal of a reading, of the input named; all zeros where nothing was refused.
+    pub fn refusal(read: ShortRead, input: u8) -> Refusal
+        ensures { λ r. ⌜ r ≡ shortRefusalOf read input ⌝ }
+    {
+        match read {
+            ShortRead::Valid(_) => Refusal::by(0),
+            ShortRead::Refused(refusal) => refusal.from(input),
         }
     }
 }

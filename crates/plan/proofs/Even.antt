@@ -1,0 +1,83 @@
+-- Even plans: no end falls from one window to the next, and so no last does, which is all that the theory of short tags asks. And
+-- the pass that asks question 13, before the window at a position.
+-- Vocabulary: even-ends, even-lasts; Rising, rising-*.
+-- Assumes nothing.
+use Prim.Native.Nat.{ℕ, suc, _+_, _≤_, _<_}
+use mathlib.Core.{Bool.true, Path._≡_, Path.refl, Path.sym, Path.ap, Path._∙_, Logic.⊎-elim, List.List, List.[], List._∷_, List.List·Memᴰ·head}
+use native.Mathlib.{Omega.arith, Numerals.add-one}
+use borrow.Author.Tests.{leb-true, ltb-true, lt-ltb, le-leb, lt-leb}
+use Rattle.sequences.proofs.Tests.{lt-or-ge}
+use Rattle.interval_graph.specs.Tree.{last, LastsRise}
+use Rattle.interval_graph.proofs.Last.{last-cases, last-ge, overlap-last}
+use Rattle.refusals.specs.declared.Asked.the-variants.{Passed, Refused}
+use Rattle.refusals.specs.Question.{Question, refusalBy, refusalAbout, question, each, firstNo, askedOf}
+use Rattle.refusals.proofs.Question.{Asking, asking-start, asking-turn, asking-refused, asking-end, all-member, all-each}
+use Rattle.plan.specs.declared.windows.Window.{Window}
+use Rattle.plan.specs.File.{windowCount, windowAt, endOf}
+use Rattle.plan.specs.Overlap.{overlaps, boundOf, overlapInOrder}
+use Rattle.plan.specs.Validation.{AcceptedPlan}
+use Rattle.plan.specs.Even.{endBefore, evenQuestion, evenQuestions, EvenPlan}
+use Rattle.plan.proofs.Overlap.{overlaps-bound, interval-order}
+
+-- The question of each window of a file.
+abbrev pub endsAsked : List ℕ → ℕ → List Question
+endsAsked file v = evenQuestion (endBefore file v) (windowAt file v) ∷ []
+
+-- In an even plan no window ends before the one ahead of it.
+pub even-ends : (file : List ℕ) → EvenPlan file → (v : ℕ) → suc v < windowCount file → endOf (windowAt file v) ≤ endOf (windowAt file (suc v))
+unfolding evenQuestions evenQuestion endBefore question
+even-ends file even v h =
+    leb-true _ _ (all-member (endsAsked file (suc v)) (all-each (endsAsked file) 0 (windowCount file) even (suc v) (omega arith) (omega arith))
+    _ (List·Memᴰ·head refl))
+
+-- So no last falls: what begins before the bound of a window begins before that of the next.
+pub even-lasts : (file : List ℕ) → AcceptedPlan file → EvenPlan file → LastsRise (windowCount file) (overlaps file)
+unfolding overlapInOrder boundOf
+even-lasts file ok even v h =
+    let n = windowCount file in let z = last n (overlaps file) v in let order = interval-order file ok in
+    ⊎-elim (λ c. ⊎-elim
+    (λ l. let early = ltb-true (windowAt file z .offset) (boundOf (windowAt file v)) (sym (overlaps-bound file ok v z (c .0) (c .1)) ∙ c .2) in
+    overlap-last order (suc v) z l (c .1) (overlaps-bound file ok (suc v) z l (c .1)
+    ∙ lt-ltb (windowAt file z .offset) (boundOf (windowAt file (suc v))) (omega (arith, early, even-ends file even v h))))
+    (λ l. omega (arith, l, last-ge order (suc v))) (lt-or-ge (suc v) z))
+    (λ c. omega (arith, c, last-ge order (suc v))) (last-cases n (overlaps file) v)
+
+-- What a window's question is answered.
+module _ (before : ℕ) (w : Window) where
+  pub ask-13 : endOf w < before → Refused (refusalBy 13) ≡ askedOf (evenQuestion before w ∷ [])
+  unfolding askedOf evenQuestion firstNo question
+  ask-13 falls = rw (lt-leb before (endOf w) falls)
+
+  pub ask-even : before ≤ endOf w → Passed ≡ askedOf (evenQuestion before w ∷ [])
+  unfolding askedOf evenQuestion firstNo question
+  ask-even rises = rw (le-leb before (endOf w) rises)
+
+-- The pass over the windows, before the one at a position: `before` is the end of the window ahead of it.
+pub record Rising (file : List ℕ) (before position : ℕ) : Type 0 where
+  pub previous : before ≡ endBefore file position
+  pub asking : Asking (endsAsked file) Refused Passed (windowCount file) position
+
+module _ (file : List ℕ) where
+  pub rising-start : Rising file 0 0
+  unfolding endBefore
+  rising-start = record { previous = refl; asking = asking-start (endsAsked file) Refused Passed (windowCount file) }
+
+  pub rising-end : (before v : ℕ) → windowCount file ≤ v → Rising file before v → Passed ≡ askedOf (evenQuestions file)
+  unfolding evenQuestions askedOf
+  rising-end before v done s = asking-end (endsAsked file) Refused Passed (windowCount file) v done (s .asking)
+
+  module _ (before v : ℕ) (left : v < windowCount file) (s : Rising file before v) where
+    pub rising-turn : before ≤ endOf (windowAt file v) → Rising file (endOf (windowAt file v)) (v + 1)
+    unfolding endBefore
+    rising-turn rises =
+        record {
+          previous = rw (add-one v);
+          asking = asking-turn (endsAsked file) Refused Passed (windowCount file) v left (s .asking)
+              (rw (← s .previous) (ask-even before (windowAt file v) rises));
+        }
+
+    pub rising-refused : endOf (windowAt file v) < before → Refused (refusalAbout v (refusalBy 13)) ≡ askedOf (evenQuestions file)
+    unfolding evenQuestions askedOf
+    rising-refused falls =
+        asking-refused (endsAsked file) Refused Passed (windowCount file) v left (s .asking) (refusalBy 13)
+        (rw (← s .previous) (ask-13 before (windowAt file v) falls))
