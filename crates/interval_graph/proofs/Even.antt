@@ -59,15 +59,21 @@ module _ {n : ℕ} {overlaps : ℕ → ℕ → Bool} (ok : IntervalOrder n overl
     level-reached : (u v D : ℕ) → Pair n overlaps u v D → u < ancestor overlaps D v → ancestor overlaps D v ≤ last n overlaps u
     level-reached u v D p h =
         let w = ancestor overlaps D v in
-        omega (arith, parent-last ok w (ancestor-below (tree overlaps) D v (p .window)),
-        lasts-rise n overlaps rise (parent overlaps w) u (parent-before ok u v D p h) (omega (arith, p .order, p .window)))
+        omega (
+          arith,
+          parent-last ok w (ancestor-below (tree overlaps) D v (p .window)),
+          lasts-rise n overlaps rise (parent overlaps w) u (parent-before ok u v D p h) (omega (arith, p .order, p .window)),
+        )
 
     -- Where it does not, u reaches the ancestor below it.
     below-reached : (u v D : ℕ) → Pair n overlaps u v (suc D) → ancestor overlaps (suc D) v ≤ u → ancestor overlaps D v ≤ last n overlaps u
     below-reached u v D p h =
         let x = ancestor overlaps D v in let up = ancestor-suc (tree overlaps) D v in
-        omega (arith, parent-last ok x (ancestor-below (tree overlaps) D v (p .window)),
-        lasts-rise n overlaps rise (parent overlaps x) u (omega arith) (omega (arith, p .order, p .window)))
+        omega (
+          arith,
+          parent-last ok x (ancestor-below (tree overlaps) D v (p .window)),
+          lasts-rise n overlaps rise (parent overlaps x) u (omega arith) (omega (arith, p .order, p .window)),
+        )
 
     falling : (u v D : ℕ) → Pair n overlaps u v D → ancestor overlaps D v ≤ u → D ≡ suc (climb n overlaps u v)
     falling u v zero p h = absurd (omega (arith, ancestor-zero (tree overlaps) v, p .order))

@@ -1,18 +1,20 @@
 -- Laws of a tag's numbers and its bytes: both ways round, and what the limit of the fields says.
--- Vocabulary: Within, within-limit, limit-within, length-tagBytes, tagOf-fields, tagOf-tagBytes, tagBytes-tagOf.
+-- Vocabulary: Within, within-limit, limit-within, shortTagOf-*, tagOf-*, length-*, shortBytes-*, tagBytes-*.
 -- Assumes nothing.
 use Prim.Native.Nat.{ℕ, _+_, _*_, _/_, _%_, _≤_, _<_}
-use mathlib.Core.{Bool.true, Bool.false, Path._≡_, Path.refl, Path.sym, Path._∙_, List.List, List._++_}
+use mathlib.Core.{Bool.true, Bool.false, Path._≡_, Path.refl, Path.sym, Path.ap, Path._∙_, List.List, List._++_}
 use native.Mathlib.Omega.{arith}
 use lib.ListN.{length, getD, take, drop}
 use lib.Seq.{take-all, take-add, drop-drop}
 use lib.Dec.{leb}
 use borrow.Author.Tests.{leb-true, le-leb, lt-leb}
 use Rattle.sequences.proofs.Tests.{and-left, and-right}
-use Rattle.interval_graph.specs.Numbers.{Numbers}
+use Rattle.interval_graph.specs.Numbers.{Numbers, short}
 use Rattle.wire.specs.LittleEndian.{le16, bytes16}
 use Rattle.wire.proofs.LittleEndian.{bytes16-at}
+use Rattle.tag_bytes.specs.declared.reader.ShortTag.{ShortTag}
 use Rattle.tag_bytes.specs.Fields.{tagLength, fieldLimit, field, tagOf, numbers, tagWith, tagBytes, withinLimit}
+use Rattle.tag_bytes.specs.Fields.{shortLength, shortTagOf, shortOf, withLast, shortNumbers, shortBytes}
 
 -- The fields after the plan number are at most the limit.
 pub record Within (n : Numbers) : Type 0 where
@@ -60,39 +62,70 @@ module _ (n : Numbers) where
 pub limit-within : (n : Numbers) → Within n → withinLimit n ≡ true
 limit-within n w = sym (last-decides n (w .component) (w .depth) (w .rank)) ∙ le-leb _ _ (w .last)
 
--- Five numbers that are those of the fields are the tag.
-pub tagOf-fields : (bytes : List ℕ) (plan component depth rank last : ℕ) → plan ≡ field bytes 0 → component ≡ field bytes 1 → depth ≡ field bytes 2 →
-    rank ≡ field bytes 3 → last ≡ field bytes 4 → record { plan = plan; component = component; depth = depth; rank = rank; last = last } ≡ tagOf bytes
-unfolding tagOf
-tagOf-fields bytes plan component depth rank last p c d r l = rw (p, c, d, r, l)
+-- Four numbers that are those of the fields are the short tag,
+pub shortTagOf-fields : (bytes : List ℕ) (plan component depth rank : ℕ) → plan ≡ field bytes 0 → component ≡ field bytes 1 → depth ≡ field bytes 2 →
+    rank ≡ field bytes 3 → record { plan = plan; component = component; depth = depth; rank = rank } ≡ shortTagOf bytes
+unfolding shortTagOf
+shortTagOf-fields bytes plan component depth rank p c d r = rw (p, c, d, r)
+
+-- and with a fifth the tag.
+pub tagOf-short : (bytes : List ℕ) (t : ShortTag) (last : ℕ) → t ≡ shortTagOf bytes → last ≡ field bytes 4 → withLast t last ≡ tagOf bytes
+unfolding tagOf shortTagOf withLast
+tagOf-short bytes t last e l = rw (e, l)
 
 -- A tag has as many bytes as its figure says.
+pub length-shortBytes : (n : Numbers) → length (shortBytes n) ≡ shortLength
+unfolding shortBytes bytes16
+length-shortBytes n = refl
+
 pub length-tagBytes : (n : Numbers) → length (tagBytes n) ≡ tagLength
-unfolding tagBytes bytes16
+unfolding tagBytes shortBytes bytes16
 length-tagBytes n = refl
 
 -- The bytes of a tag hold its numbers.
+two-bytes : (x : ℕ) → x % 256 + 256 * (x / 256) ≡ x
+two-bytes x = omega arith
+
+pub shortTagOf-shortBytes : (n : Numbers) → shortTagOf (shortBytes n) ≡ shortOf (tagWith n)
+unfolding shortTagOf field le16 shortBytes bytes16 shortOf tagWith
+shortTagOf-shortBytes n = rw (two-bytes (n .plan), two-bytes (n .component), two-bytes (n .depth), two-bytes (n .rank))
+
 pub tagOf-tagBytes : (n : Numbers) → tagOf (tagBytes n) ≡ tagWith n
-unfolding tagOf field le16 tagBytes bytes16 tagWith
-tagOf-tagBytes n = rw (whole (n .plan), whole (n .component), whole (n .depth), whole (n .rank), whole (n .last))
-  where
-    whole : (x : ℕ) → x % 256 + 256 * (x / 256) ≡ x
-    whole x = omega arith
+unfolding tagOf field le16 tagBytes shortBytes bytes16 tagWith
+tagOf-tagBytes n = rw (two-bytes (n .plan), two-bytes (n .component), two-bytes (n .depth), two-bytes (n .rank), two-bytes (n .last))
 
 -- The tag with given numbers has those numbers.
 pub numbers-tagWith : (n : Numbers) → numbers (tagWith n) ≡ n
 unfolding numbers tagWith
 numbers-tagWith n = refl
 
--- As many bytes as a tag has, written from the numbers that they hold, are the same bytes.
-pub tagBytes-tagOf : (bytes : List ℕ) → ((i : ℕ) → getD bytes i 0 < 256) → length bytes ≡ tagLength → tagBytes (numbers (tagOf bytes)) ≡ bytes
-unfolding tagBytes numbers tagOf field
-tagBytes-tagOf bytes small long =
-    rw (two 0 (omega arith), two 2 (omega arith), two 4 (omega arith), two 6 (omega arith), two 8 (omega arith))
-    (rw (joined 6 2, joined 4 4, joined 2 6, joined 0 8) (take-all 10 bytes (omega arith)))
-  where
-    two : (at : ℕ) → at + 2 ≤ length bytes → bytes16 (le16 bytes at) ≡ take 2 (drop at bytes)
-    two at h = bytes16-at bytes at small h
+-- The numbers of a short tag are those of the tag, but for the last.
+pub shortNumbers-shortOf : (n : Numbers) → shortNumbers (shortOf (tagWith n)) ≡ short n
+unfolding shortNumbers numbers withLast shortOf tagWith short
+shortNumbers-shortOf n = refl
 
-    joined : (at k : ℕ) → take 2 (drop at bytes) ++ take k (drop (at + 2) bytes) ≡ take (2 + k) (drop at bytes)
-    joined at k = rw (take-add 2 k (drop at bytes), drop-drop 2 at bytes)
+-- As many bytes as a tag has, written from the numbers that they hold, are the same bytes.
+module _ (bytes : List ℕ) (small : (i : ℕ) → getD bytes i 0 < 256) where
+  two : (at : ℕ) → at + 2 ≤ length bytes → bytes16 (le16 bytes at) ≡ take 2 (drop at bytes)
+  two at h = bytes16-at bytes at small h
+
+  joined : (at j k : ℕ) → take j (drop at bytes) ++ take k (drop (at + j) bytes) ≡ take (j + k) (drop at bytes)
+  joined at j k = rw (take-add j k (drop at bytes), drop-drop j at bytes)
+
+  front : shortLength ≤ length bytes → bytes16 (field bytes 0) ++ (bytes16 (field bytes 1) ++ (bytes16 (field bytes 2) ++ bytes16 (field bytes 3)))
+      ≡ take shortLength bytes
+  unfolding field
+  front long =
+      rw (two 0 (omega arith), two 2 (omega arith), two 4 (omega arith), two 6 (omega arith)) (rw (joined 4 2 2, joined 2 2 4, joined 0 2 6))
+
+  behind : tagLength ≤ length bytes → take shortLength bytes ++ bytes16 (field bytes 4) ≡ take tagLength bytes
+  unfolding field
+  behind long = ap (λ b. take shortLength bytes ++ b) (two 8 (omega arith)) ∙ joined 0 8 2
+
+  pub shortBytes-shortTagOf : length bytes ≡ shortLength → shortBytes (shortNumbers (shortTagOf bytes)) ≡ bytes
+  unfolding shortBytes shortNumbers numbers withLast shortTagOf
+  shortBytes-shortTagOf long = front (omega arith) ∙ take-all shortLength bytes (omega arith)
+
+  pub tagBytes-tagOf : length bytes ≡ tagLength → tagBytes (numbers (tagOf bytes)) ≡ bytes
+  unfolding tagBytes shortBytes numbers tagOf
+  tagBytes-tagOf long = rw (front (omega arith)) (behind (omega arith) ∙ take-all tagLength bytes (omega arith))

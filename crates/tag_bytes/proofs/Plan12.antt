@@ -9,14 +9,14 @@ use Rattle.refusals.specs.Question.{refusalBy, question, positionQuestion, room
 use Rattle.tag_bytes.specs.declared.tag_file.LookupAnswer.the-variants as lookup
 use Rattle.tag_bytes.specs.declared.writer.WriteAnswer.the-variants as write
 use Rattle.tag_bytes.specs.declared.reader.TagRead.the-variants as read
-use Rattle.tag_bytes.specs.Fields.{field, tagOf, numbers, tagWith, tagBytes, withinLimit}
+use Rattle.tag_bytes.specs.Fields.{field, tagOf, numbers, tagWith, tagBytes, withinLimit, shortBytes}
 use Rattle.tag_bytes.specs.Reading.{readQuestions, readAnswerOf}
 use Rattle.tag_bytes.specs.Writing.{writeQuestions, writeAnswerOf}
 use Rattle.tag_bytes.specs.TagFile.{tagFile, tagCount, tagPart, tagFileQuestion, lookupQuestions, lookupAnswerOf, partAt, lookupPart}
 
 -- What a computation on tags opens.
 unfoldable pub meaning : Unit {0}
-unfolding definitions le16 bytes16 question positionQuestion firstNo field tagOf numbers tagWith tagBytes withinLimit readQuestions
+unfolding definitions le16 bytes16 question positionQuestion firstNo field tagOf numbers tagWith tagBytes shortBytes withinLimit readQuestions
     readAnswerOf tagFile tagCount tagPart tagFileQuestion flatMap lookupQuestions lookupAnswerOf partAt lookupPart
 meaning = tt
 

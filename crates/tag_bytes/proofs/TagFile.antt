@@ -1,6 +1,6 @@
 -- Laws of a tag file: what each answer of a lookup shows, and the part at a position, of any tag file and of one that is written
 -- tag after tag.
--- Vocabulary: lookup-*, found-within, part-*, length-tagFile, tagFile-*.
+-- Vocabulary: lookup-*, found-within, part-*, length-*, tagFile-*, shortTagFile-*.
 -- Assumes nothing.
 use Prim.Native.Nat.{ℕ, suc, _+_, _*_, _/_, _%_, _≤_, _<_}
 use mathlib.Core.Path.{_≡_, refl, sym, ap, _∙_}
@@ -16,9 +16,9 @@ use Rattle.refusals.specs.declared.Refusal.{Refusal}
 use Rattle.refusals.specs.Question.{refusalBy, question, positionQuestion, firstNo}
 use Rattle.refusals.proofs.Question.{first-all, all-member}
 use Rattle.tag_bytes.specs.declared.tag_file.LookupAnswer.the-variants.{Found, Refused}
-use Rattle.tag_bytes.specs.Fields.{tagLength, tagBytes}
-use Rattle.tag_bytes.specs.TagFile.{tagFile, tagCount, tagPart, tagFileQuestion, lookupQuestions, lookupAnswerOf, partAt, lookupPart}
-use Rattle.tag_bytes.proofs.Fields.{length-tagBytes}
+use Rattle.tag_bytes.specs.Fields.{tagLength, tagBytes, shortLength, shortBytes}
+use Rattle.tag_bytes.specs.TagFile.{tagFile, tagCount, partOf, tagPart, tagFileQuestion, lookupQuestions, lookupAnswerOf, partAt, lookupPart, shortTagFile}
+use Rattle.tag_bytes.proofs.Fields.{length-tagBytes, length-shortBytes}
 
 module _ (tags : List ℕ) (at : ℕ) where
   -- A file whose length is no multiple of a tag's is refused by 9.
@@ -87,3 +87,23 @@ module _ (f : ℕ → Numbers) where
       (drop (tagLength * v) (overwritten l (tagFile f v))) (tagBytes (f v)) ≡ overwritten l (tagFile f (suc v))
   unfolding tagFile
   tagFile-turn v l = records-turn tagBytes tagLength length-tagBytes f v l
+
+  -- The same of short tags.
+  pub length-shortTagFile : (n : ℕ) → length (shortTagFile f n) ≡ shortLength * n
+  unfolding shortTagFile
+  length-shortTagFile n = omega (arith, length-records shortBytes shortLength length-shortBytes (table f n), length-table f n)
+
+  pub shortTagFile-part : (n v : ℕ) → v < n → partOf shortLength (shortTagFile f n) v ≡ shortBytes (f v)
+  unfolding shortTagFile
+  shortTagFile-part n v h =
+      rw append-nil at (record-part shortBytes shortLength length-shortBytes (table f n) v (f v) [] (omega (arith, length-table f n)))
+      ∙ ap shortBytes (getD-table f n v (f v) h)
+
+  pub shortTagFile-cong : (g : ℕ → Numbers) (n : ℕ) → ((v : ℕ) → v < n → f v ≡ g v) → shortTagFile f n ≡ shortTagFile g n
+  unfolding shortTagFile
+  shortTagFile-cong g n e = ap (flatMap shortBytes) (table-cong f g n e)
+
+  pub shortTagFile-turn : (v : ℕ) (l : List ℕ) → take (shortLength * v) (overwritten l (shortTagFile f v)) ++ overwritten
+      (drop (shortLength * v) (overwritten l (shortTagFile f v))) (shortBytes (f v)) ≡ overwritten l (shortTagFile f (suc v))
+  unfolding shortTagFile
+  shortTagFile-turn v l = records-turn shortBytes shortLength length-shortBytes f v l

@@ -1,57 +1,100 @@
 -- Laws of writing one tag: what each answer shows, that a written tag reads back as the same numbers, and that bytes that read
 -- as a tag are written back the same.
--- Vocabulary: write-*, put-front, refused-after, Fits, written-*, tag-front, tagBytes-read, read-*.
+-- Vocabulary: put-*, written-*, write-*, short-*, tag-front, refused-after, tagBytes-read, read-*, shortBytes-read.
 -- Assumes nothing.
 use Prim.Native.Nat.{ℕ, _≤_, _<_}
-use mathlib.Core.{Bool.true, Bool.false, Path._≡_, Path.refl, Path.sym, Path._∙_, List.List, List.[], List._++_, List.List·Memᴰ}
+use mathlib.Core.{Bool.true, Bool.false, Path._≡_, Path.refl, Path.sym, Path._∙_, List.List, List.[], List._++_}
 use mathlib.Core.{List.List·Memᴰ·head, List.List·Memᴰ·tail}
 use native.Mathlib.Omega.{arith}
-use lib.ListN.{length, getD, take}
+use lib.ListN.{length, getD, take, drop}
 use borrow.Author.Tests.{leb-true, le-leb, lt-leb}
 use Rattle.sequences.specs.Table.{overwritten}
 use Rattle.sequences.proofs.Table.{take-overwritten}
-use Rattle.interval_graph.specs.Numbers.{Numbers}
+use Rattle.interval_graph.specs.Numbers.{Numbers, short}
 use Rattle.refusals.specs.declared.Refusal.{Refusal}
 use Rattle.wire.specs.LittleEndian.{bytes16, placed}
-use Rattle.refusals.specs.Question.{Question, refusalBy, question, roomQuestion, firstNo}
+use Rattle.refusals.specs.Question.{refusalBy, question, roomQuestion, firstNo}
 use Rattle.wire.proofs.LittleEndian.{placed-overwritten}
 use Rattle.refusals.proofs.Question.{first-all, all-member}
 use Rattle.tag_bytes.specs.declared.reader.Tag.{Tag}
 use Rattle.tag_bytes.specs.declared.reader.TagRead.the-variants.{Valid}
 use Rattle.tag_bytes.specs.declared.writer.WriteAnswer.the-variants.{Written, Refused}
-use Rattle.tag_bytes.specs.Fields.{tagLength, numbers, tagWith, tagBytes, withinLimit}
-use Rattle.tag_bytes.specs.Reading.{readAnswerOf}
-use Rattle.tag_bytes.specs.Writing.{writeQuestions, writeAnswerOf, afterWrite}
-use Rattle.tag_bytes.proofs.Fields.{length-tagBytes, tagOf-tagBytes, numbers-tagWith, tagBytes-tagOf}
-use Rattle.tag_bytes.proofs.Reading.{read-valid, valid-reads}
+use Rattle.tag_bytes.specs.declared.reader.ShortTag.{ShortTag}
+use Rattle.tag_bytes.specs.declared.reader.ShortRead.the-variants as shortRead
+use Rattle.tag_bytes.specs.Fields.{tagLength, numbers, tagWith, tagBytes, withinLimit, shortLength, shortOf, shortNumbers, shortBytes}
+use Rattle.tag_bytes.specs.Reading.{readAnswerOf, shortReadAnswerOf}
+use Rattle.tag_bytes.specs.Writing.{putQuestions, writeQuestions, writeAnswerOf, afterWrite}
+use Rattle.tag_bytes.specs.Writing.{shortWriteQuestions, shortWriteAnswerOf, afterShortWrite}
+use Rattle.tag_bytes.proofs.Fields.{within-limit, limit-within, length-tagBytes, tagOf-tagBytes, numbers-tagWith, tagBytes-tagOf}
+use Rattle.tag_bytes.proofs.Fields.{length-shortBytes, shortTagOf-shortBytes, shortNumbers-shortOf, shortBytes-shortTagOf}
+use Rattle.tag_bytes.proofs.Reading.{read-valid, valid-reads, short-read-valid, short-valid-reads}
 
-module _ (n : Numbers) (out : List ℕ) where
+-- The answer to numbers that are to be written as so many bytes.
+module _ (wide : ℕ) (n : Numbers) (out : List ℕ) where
   -- A table without room is refused by 8.
-  pub write-8 : length out < tagLength → Refused (refusalBy 8) ≡ writeAnswerOf n out
-  unfolding writeAnswerOf writeQuestions roomQuestion firstNo question
-  write-8 short = rw (lt-leb tagLength (length out) short)
+  pub put-8 : length out < wide → Refused (refusalBy 8) ≡ firstNo (putQuestions wide n out) Refused Written
+  unfolding roomQuestion firstNo question
+  put-8 short = rw (lt-leb wide (length out) short)
 
   -- A field past the limit is refused by 10.
-  pub write-10 : tagLength ≤ length out → withinLimit n ≡ false → Refused (refusalBy 10) ≡ writeAnswerOf n out
-  unfolding writeAnswerOf writeQuestions roomQuestion firstNo question
-  write-10 room over = rw (le-leb tagLength (length out) room, over)
+  pub put-10 : wide ≤ length out → withinLimit n ≡ false → Refused (refusalBy 10) ≡ firstNo (putQuestions wide n out) Refused Written
+  unfolding roomQuestion firstNo question
+  put-10 room over = rw (le-leb wide (length out) room, over)
 
   -- Else the tag is written.
-  pub write-written : tagLength ≤ length out → withinLimit n ≡ true → Written ≡ writeAnswerOf n out
-  unfolding writeAnswerOf writeQuestions roomQuestion firstNo question
-  write-written room within = rw (le-leb tagLength (length out) room, within)
+  pub put-written : wide ≤ length out → withinLimit n ≡ true → Written ≡ firstNo (putQuestions wide n out) Refused Written
+  unfolding roomQuestion firstNo question
+  put-written room within = rw (le-leb wide (length out) room, within)
 
-  -- Five numbers of two bytes, written one behind the other, are the tag at the front.
-  pub put-front : (a b c d e : List ℕ) → tagLength ≤ length out → a ≡ placed out 0 (bytes16 (n .plan)) → b ≡ placed a 2 (bytes16 (n .component)) →
-      c ≡ placed b 4 (bytes16 (n .depth)) → d ≡ placed c 6 (bytes16 (n .rank)) → e ≡ placed d 8 (bytes16 (n .last)) → e ≡ overwritten out (tagBytes n)
-  unfolding overwritten tagBytes bytes16
-  put-front a b c d e room plan component depth rank last =
+  -- A tag that is written shows that there is room, and that the fields are within their limit.
+  pub written-fits : firstNo (putQuestions wide n out) Refused Written ≡ Written → (wide ≤ length out) × (withinLimit n ≡ true)
+  unfolding roomQuestion question
+  written-fits e =
+      let asked = all-member (putQuestions wide n out)
+      (first-all (putQuestions wide n out) Refused Written (λ r s. let z : _≡_ {A = ℕ} 0 1 = cc in omega arith) e) in
+      (leb-true _ _ (asked _ (List·Memᴰ·head refl)), asked _ (List·Memᴰ·tail (List·Memᴰ·head refl)))
+
+-- The answers of both writes.
+module _ (n : Numbers) (out : List ℕ) where
+  pub write-8 : length out < tagLength → Refused (refusalBy 8) ≡ writeAnswerOf n out
+  unfolding writeAnswerOf writeQuestions
+  write-8 = put-8 tagLength n out
+
+  pub write-10 : tagLength ≤ length out → withinLimit n ≡ false → Refused (refusalBy 10) ≡ writeAnswerOf n out
+  unfolding writeAnswerOf writeQuestions
+  write-10 = put-10 tagLength n out
+
+  pub write-written : tagLength ≤ length out → withinLimit n ≡ true → Written ≡ writeAnswerOf n out
+  unfolding writeAnswerOf writeQuestions
+  write-written = put-written tagLength n out
+
+  pub short-write-8 : length out < shortLength → Refused (refusalBy 8) ≡ shortWriteAnswerOf n out
+  unfolding shortWriteAnswerOf shortWriteQuestions
+  short-write-8 = put-8 shortLength n out
+
+  pub short-write-10 : shortLength ≤ length out → withinLimit n ≡ false → Refused (refusalBy 10) ≡ shortWriteAnswerOf n out
+  unfolding shortWriteAnswerOf shortWriteQuestions
+  short-write-10 = put-10 shortLength n out
+
+  pub short-write-written : shortLength ≤ length out → withinLimit n ≡ true → Written ≡ shortWriteAnswerOf n out
+  unfolding shortWriteAnswerOf shortWriteQuestions
+  short-write-written = put-written shortLength n out
+
+-- The front of a table that a tag was written to is the tag.
+at-front : (bytesOf : Numbers → List ℕ) (wide : ℕ) → ((n : Numbers) → length (bytesOf n) ≡ wide) → (n : Numbers) (out : List ℕ) →
+    take wide (overwritten out (bytesOf n)) ≡ bytesOf n
+at-front bytesOf wide long n out = rw (long n) at (take-overwritten out (bytesOf n))
+
+module _ (n : Numbers) (out : List ℕ) where
+  -- Four numbers of two bytes, written one behind the other, are the short tag at the front,
+  pub short-front : (a b c d : List ℕ) → shortLength ≤ length out → a ≡ placed out 0 (bytes16 (n .plan)) → b ≡ placed a 2 (bytes16 (n .component)) →
+      c ≡ placed b 4 (bytes16 (n .depth)) → d ≡ placed c 6 (bytes16 (n .rank)) → d ≡ overwritten out (shortBytes n)
+  unfolding overwritten shortBytes bytes16
+  short-front a b c d room plan component depth rank =
       let first = bytes16 (n .plan) in
       let second = first ++ bytes16 (n .component) in
       let third = second ++ bytes16 (n .depth) in
-      let fourth = third ++ bytes16 (n .rank) in
       rw (
-        last,
         rank,
         depth,
         component,
@@ -60,47 +103,34 @@ module _ (n : Numbers) (out : List ℕ) where
         placed-overwritten out first (bytes16 (n .component)) (omega arith),
         placed-overwritten out second (bytes16 (n .depth)) (omega arith),
         placed-overwritten out third (bytes16 (n .rank)) (omega arith),
-        placed-overwritten out fourth (bytes16 (n .last)) (omega arith),
       )
+
+  -- and with a fifth behind them the tag.
+  pub tag-front : (a b : List ℕ) → tagLength ≤ length out → a ≡ overwritten out (shortBytes n) → b ≡ placed a 8 (bytes16 (n .last)) →
+      b ≡ overwritten out (tagBytes n)
+  unfolding overwritten tagBytes shortBytes bytes16
+  tag-front a b room front last = rw (last, front) (placed-overwritten out (shortBytes n) (bytes16 (n .last)) (omega arith))
 
   -- A refusal leaves the table as it was.
   pub refused-after : (r : Refusal) → out ≡ afterWrite (Refused r) n out
   unfolding afterWrite
   refused-after r = refl
 
--- What is known where the tag is written: there is room, and the fields are within their limit.
-pub record Fits (n : Numbers) (out : List ℕ) : Type 0 where
-  pub room : tagLength ≤ length out
-  pub within : withinLimit n ≡ true
-
--- A tag that is written shows both.
-pub written-fits : (n : Numbers) (out : List ℕ) → writeAnswerOf n out ≡ Written → Fits n out
-unfolding writeAnswerOf writeQuestions roomQuestion question
-written-fits n out e =
-    record {
-      room = leb-true _ _ (asked _ (List·Memᴰ·head refl));
-      within = asked _ (List·Memᴰ·tail (List·Memᴰ·head refl));
-    }
-  where
-    asked : (q : Question) → List·Memᴰ q (writeQuestions n out) → q .yes ≡ true
-    asked =
-        all-member (writeQuestions n out)
-        (first-all (writeQuestions n out) Refused Written (λ r s. let z : _≡_ {A = ℕ} 0 1 = cc in omega arith) e)
+  pub short-refused-after : (r : Refusal) → out ≡ afterShortWrite (Refused r) n out
+  unfolding afterShortWrite
+  short-refused-after r = refl
 
 -- The bytes of a tag within the limit read as that tag.
 pub tagBytes-read : (n : Numbers) → withinLimit n ≡ true → readAnswerOf (tagBytes n) ≡ Valid (tagWith n)
 tagBytes-read n within =
     sym (read-valid (tagBytes n) (tagWith n) (length-tagBytes n) (sym (tagOf-tagBytes n)) (rw (numbers-tagWith n) within))
 
--- The front of a table that a tag was written to is the tag.
-tag-front : (n : Numbers) (out : List ℕ) → take tagLength (overwritten out (tagBytes n)) ≡ tagBytes n
-tag-front n out = rw (length-tagBytes n) at (take-overwritten out (tagBytes n))
-
 -- A tag that is written reads back as the same five numbers.
 pub written-reads-back : (n : Numbers) (out : List ℕ) → writeAnswerOf n out ≡ Written →
     readAnswerOf (take tagLength (afterWrite (writeAnswerOf n out) n out)) ≡ Valid (tagWith n)
-unfolding afterWrite
-written-reads-back n out e = rw (e, tag-front n out) (tagBytes-read n (written-fits n out e .within))
+unfolding afterWrite writeAnswerOf writeQuestions
+written-reads-back n out e =
+    rw (e, at-front tagBytes tagLength length-tagBytes n out) (tagBytes-read n (written-fits tagLength n out e .1))
 
 -- Bytes that read as a tag are those of its numbers.
 pub read-tagBytes : (bytes : List ℕ) (t : Tag) → ((i : ℕ) → getD bytes i 0 < 256) → readAnswerOf bytes ≡ Valid t → tagBytes (numbers t) ≡ bytes
@@ -117,4 +147,31 @@ pub read-writes-back : (bytes : List ℕ) (t : Tag) (out : List ℕ) → ((i : �
     tagLength ≤ length out → take tagLength (afterWrite (writeAnswerOf (numbers t) out) (numbers t) out) ≡ bytes
 unfolding afterWrite
 read-writes-back bytes t out small e room =
-    rw (read-accepted bytes t out e room) (tag-front (numbers t) out ∙ read-tagBytes bytes t small e)
+    rw (read-accepted bytes t out e room) (at-front tagBytes tagLength length-tagBytes (numbers t) out ∙ read-tagBytes bytes t small e)
+
+-- The same of a short tag.
+pub shortBytes-read : (n : Numbers) → withinLimit (short n) ≡ true → shortReadAnswerOf (shortBytes n) ≡ shortRead.Valid (shortOf (tagWith n))
+shortBytes-read n within =
+    sym (short-read-valid (shortBytes n) (shortOf (tagWith n)) (length-shortBytes n) (sym (shortTagOf-shortBytes n)) (rw (shortNumbers-shortOf n) within))
+
+-- A field that a short tag does not have is past no limit.
+pub within-short : (n : Numbers) → withinLimit n ≡ true → withinLimit (short n) ≡ true
+unfolding short
+within-short n within =
+    let w = within-limit n within in
+    limit-within _ (record { component = w .component; depth = w .depth; rank = w .rank; last = omega arith })
+
+pub short-reads-back : (n : Numbers) (out : List ℕ) → shortWriteAnswerOf n out ≡ Written →
+    shortReadAnswerOf (take shortLength (afterShortWrite (shortWriteAnswerOf n out) n out)) ≡ shortRead.Valid (shortOf (tagWith n))
+unfolding afterShortWrite shortWriteAnswerOf shortWriteQuestions
+short-reads-back n out e =
+    rw (e, at-front shortBytes shortLength length-shortBytes n out)
+    (shortBytes-read n (within-short n (written-fits shortLength n out e .1)))
+
+pub short-writes-back : (bytes : List ℕ) (t : ShortTag) (out : List ℕ) → ((i : ℕ) → getD bytes i 0 < 256) → shortReadAnswerOf bytes ≡ shortRead.Valid t →
+    shortLength ≤ length out → afterShortWrite (shortWriteAnswerOf (shortNumbers t) out) (shortNumbers t) out ≡ bytes ++ drop shortLength out
+unfolding afterShortWrite shortWriteAnswerOf shortWriteQuestions overwritten
+short-writes-back bytes t out small e room =
+    let r = short-valid-reads bytes t e in
+    let same : shortBytes (shortNumbers t) ≡ bytes = rw (r .holds) (shortBytes-shortTagOf bytes small (r .long)) in
+    rw (sym (put-written shortLength (shortNumbers t) out room (r .within)), length-shortBytes (shortNumbers t), same)

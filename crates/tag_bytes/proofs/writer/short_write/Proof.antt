@@ -1,0 +1,55 @@
+-- `tag_bytes::writer::short_write` meets its contract: room is asked for, then the limit of the fields, and a refusal alters
+-- nothing.
+-- Assumes nothing.
+use mathlib.Core.Path.{sym, ap, _∙_}
+use borrow.Author.Tests.{not-true, not-false}
+use Rattle.tag_bytes.specs.declared.writer.WriteAnswer.the-variants.{Refused}
+use Rattle.tag_bytes.specs.Fields.{numbers, shortNumbers, withLast, withinLimit}
+use Rattle.tag_bytes.specs.Writing.{afterShortWrite}
+use Rattle.tag_bytes.proofs.Writing.{short-write-8, short-write-10, short-write-written, short-refused-after}
+use borrow.Author.Needs.{needs}
+use Rattle.tag_bytes.proofs.writer.short_write.Statement.{statement}
+use Rattle.tag_bytes.proofs.writer.short_write.Tie as tie
+
+by-requires : tie.Need-by-requires
+by-requires c κs = search needs
+
+returns : tie.Need-returns
+returns c = (ap Refused (c .by .ensures) ∙ short-write-8 _ _ (c .before .if1 .taken), short-refused-after _ _ _)
+
+with-last-requires : tie.Need-with-last-requires
+with-last-requires c κs = search needs
+
+within-limit-requires : tie.Need-within-limit-requires
+within-limit-requires c κs = search needs
+
+by-requires-2 : tie.Need-by-requires-2
+by-requires-2 c κs = search needs
+
+returns-2 : tie.Need-returns-2
+unfolding numbers withLast
+returns-2 c = let d = c .before .before in (
+  ap Refused (c .by2 .ensures)
+      ∙ short-write-10 _ _ (d .before .before .if1 .left)
+      (ap (λ t. withinLimit (numbers t)) (sym (d .before .with-last .ensures)) ∙ (sym (d .within-limit .ensures) ∙ not-true _ (c .before .if2 .taken))),
+  short-refused-after _ _ _,
+)
+
+put-short-requires : tie.Need-put-short-requires
+put-short-requires c κs = c .before .before .before .before .if1 .left
+
+same-length : tie.Need-same-length
+same-length c = search needs
+
+returns-3 : tie.Need-returns-3
+unfolding numbers withLast shortNumbers afterShortWrite
+returns-3 c = let d = c .before .before .before .before in (
+  short-write-written _ _ (d .before .before .before .if1 .left)
+      (ap (λ t. withinLimit (numbers t)) (sym (d .before .before .with-last .ensures)) ∙ (sym (d .before .within-limit .ensures) ∙ not-false _ (d .if2 .left))),
+  c .before .before .put-short .ensures,
+)
+
+pub short-write-spec : {M : Type 1} → statement M
+short-write-spec =
+    tie.close (tie.spec by-requires returns with-last-requires within-limit-requires by-requires-2 returns-2 put-short-requires
+    same-length returns-3)
