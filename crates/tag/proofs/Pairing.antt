@@ -1,21 +1,21 @@
 -- Laws of the answer from two tags: by their readings, by the numbers of two that are read, in either order, for a tag with
 -- itself, and how large a count can be; and for two positions of a tag file.
--- Vocabulary: pair-*, compared-*, agreeing-*.
+-- Vocabulary: pair-*, compared-*, agreeing-*, places-*, short-*.
 -- Assumes nothing.
-use Prim.Native.Nat.{ℕ, _/_, _%_, _≤_, _<_}
+use Prim.Native.Nat.{ℕ, _+_, _*_, _/_, _%_, _≤_, _<_}
 use mathlib.Core.{Bool.true, Bool.false, Path._≡_, Path.refl, Path.sym, Path.ap, Path._∙_, Logic.⊎-elim, List.List, List._++_}
 use mathlib.Core.{List.List·Memᴰ·head, List.List·Memᴰ·tail}
 use native.Mathlib.Omega.{arith}
 use lib.ListN.{length}
 use borrow.Author.Tests.{eq-eqb, ne-eqb, eqb-true, ltb-true}
 use Rattle.sequences.proofs.Tests.{eqb-symmetric, truth}
-use Rattle.interval_graph.specs.Numbers.{Numbers, Outcome, apart, no-chain, equal, comesFirst, between, outcome}
+use Rattle.interval_graph.specs.Numbers.{Numbers, Outcome, apart, no-chain, equal, comesFirst, outcomeBy, between, outcome, short, shortBetween}
 use Rattle.interval_graph.proofs.Outcome.{equal-refl, equal-symmetric, outcome-equal, outcome-components}
-use Rattle.interval_graph.proofs.Outcome.{outcome-first, outcome-second, outcome-symmetric, outcome-most}
+use Rattle.interval_graph.proofs.Outcome.{outcome-first, outcome-second, outcome-symmetric, short-symmetric, outcome-most}
 use Rattle.refusals.specs.declared.Refusal.{Refusal}
 use Rattle.refusals.specs.declared.Asked.{Asked}
 use Rattle.refusals.specs.declared.Asked.the-variants as asked
-use Rattle.refusals.specs.Question.{refusalBy, refusalFrom, question, from, firstNo, askedOf, positionQuestion, positionQuestions}
+use Rattle.refusals.specs.Question.{Question, refusalBy, refusalFrom, question, from, firstNo, askedOf, positionQuestion, positionQuestions}
 use Rattle.refusals.proofs.Question.{first-append, first-from, answer-accepted, afterAsked, asked-first, asked-refused}
 use Rattle.refusals.proofs.Question.{asked-passed, first-all, all-member, all-from, append-left, append-right, passed-within}
 use lib.Dec.{eqb}
@@ -23,33 +23,45 @@ use Rattle.tag_bytes.specs.declared.reader.Tag.{Tag}
 use Rattle.tag_bytes.specs.declared.reader.TagRead.the-variants as read
 use Rattle.tag.specs.declared.pairs.PairAnswer.{PairAnswer}
 use Rattle.tag.specs.declared.pairs.PairAnswer.the-variants.{Handovers, NoChain, Refused}
+use Rattle.tag_bytes.specs.declared.reader.ShortTag.{ShortTag}
+use Rattle.tag_bytes.specs.declared.reader.ShortRead.the-variants as shortRead
 use Rattle.tag_bytes.specs.Fields.{tagLength, fieldLimit, tagOf, numbers, tagWith, tagBytes, withinLimit}
-use Rattle.tag_bytes.specs.Reading.{readQuestions, readAnswerOf}
-use Rattle.tag_bytes.specs.TagFile.{tagFile, tagCount, tagPart, tagFileQuestion, lookupPart}
-use Rattle.tag.specs.Pairing.{agreeing, compareQuestions, pairQuestions, answerOf}
-use Rattle.tag.specs.Pairing.{comparedOf, pairAnswerOf, placeQuestions, pairAtQuestions, pairAtAnswerOf}
-use Rattle.tag_bytes.proofs.Fields.{Within, within-limit, numbers-tagWith}
+use Rattle.tag_bytes.specs.Fields.{shortLength, shortTagOf, shortOf, shortNumbers, shortBytes}
+use Rattle.tag_bytes.specs.Reading.{tagQuestions, readQuestions, readAnswerOf, shortReadQuestions, shortReadAnswerOf}
+use Rattle.tag_bytes.specs.TagFile.{tagFile, tagCount, partOf, tagPart, lookupPart}
+use Rattle.tag.specs.Pairing.{agreeing, compareQuestions, tagsQuestions, pairQuestions, answerOf, comparedBy, comparedOf, pairAnswerOf}
+use Rattle.tag.specs.Pairing.{placesIn, placeQuestions, pairAtQuestions, pairAtAnswerOf, shortPairQuestions, shortPairAnswerOf}
+use Rattle.tag.specs.Pairing.{shortPlaceQuestions, shortPairAtQuestions, shortPairAtAnswerOf}
+use Rattle.tag_bytes.proofs.Fields.{Within, within-limit, numbers-tagWith, shortNumbers-shortOf}
 use Rattle.tag_bytes.proofs.Reading.{valid-reads, questions-valid, questions-refused}
-use Rattle.tag_bytes.proofs.Writing.{tagBytes-read}
+use Rattle.tag_bytes.proofs.Reading.{short-valid-reads, short-questions-valid, short-questions-refused}
+use Rattle.tag_bytes.proofs.Writing.{tagBytes-read, shortBytes-read, within-short}
 use Rattle.tag_bytes.proofs.TagFile.{lookup-found, part-found, lookup-position, length-tagFile, tagFile-lookup}
+
+-- A reading speaks of a first input.
+first-input : (wide : ℕ) (bytes : List ℕ) (n : Numbers) → from 0 (tagQuestions wide bytes n) ≡ tagQuestions wide bytes n
+unfolding question from
+first-input wide bytes n = refl
+
+first-asked : (qs : List Question) → from 0 qs ≡ qs → (accepted : PairAnswer) →
+    firstNo qs Refused accepted ≡ firstNo qs (λ r. Refused (refusalFrom 0 r)) accepted
+first-asked qs own accepted = ap (λ q. firstNo q Refused accepted) (sym own) ∙ first-from 0 qs Refused accepted
+
+-- The questions to the first tag, to the second, and to both.
+in-turn : (rule : Numbers → Numbers → ℕ) (first second : List Question) (u v : Numbers) → from 0 first ≡ first →
+    firstNo (tagsQuestions first second u v) Refused (answerOf (outcomeBy rule u v))
+    ≡ firstNo first (λ r. Refused (refusalFrom 0 r)) (firstNo second (λ r. Refused (refusalFrom 1 r)) (comparedBy rule u v))
+unfolding comparedBy
+in-turn rule first second u v own =
+    rw (first-append, first-from, first-append, first-from)
+    (first-asked first own _)
 
 -- The answer from two byte strings, by their readings.
 module _ (first second : List ℕ) where
-  -- A reading speaks of a first input.
-  first-input : from 0 (readQuestions first) ≡ readQuestions first
-  unfolding readQuestions question from
-  first-input = refl
-
-  first-asked : (accepted : PairAnswer) → firstNo (readQuestions first) Refused accepted
-      ≡ firstNo (readQuestions first) (λ r. Refused (refusalFrom 0 r)) accepted
-  first-asked accepted = ap (λ qs. firstNo qs Refused accepted) (sym first-input) ∙ first-from 0 (readQuestions first) Refused accepted
-
-  -- The questions to the first tag, to the second, and to both.
   questions-in-turn : pairAnswerOf first second ≡ firstNo (readQuestions first) (λ r. Refused (refusalFrom 0 r))
       (firstNo (readQuestions second) (λ r. Refused (refusalFrom 1 r)) (comparedOf (numbers (tagOf first)) (numbers (tagOf second))))
-  unfolding pairAnswerOf pairQuestions comparedOf
-  questions-in-turn =
-      rw (first-append, first-from, first-append, first-from) (first-asked _)
+  unfolding pairAnswerOf pairQuestions readQuestions
+  questions-in-turn = in-turn between (readQuestions first) (readQuestions second) _ _ (first-input tagLength first _)
 
   -- "A tag that is refused ends the pair call there, before the second tag is read": nothing is asked of the second.
   pub pair-first-refused : (r : Refusal) → readAnswerOf first ≡ read.Refused r → pairAnswerOf first second ≡ Refused (refusalFrom 0 r)
@@ -67,16 +79,37 @@ module _ (first second : List ℕ) where
       questions-in-turn ∙ (questions-valid first _ _ a e ∙ (questions-valid second _ _ b g
       ∙ rw (valid-reads first a e .holds, valid-reads second b g .holds)))
 
--- The answer from the numbers of two tags, case by case.
-module _ (u v : Numbers) where
+-- The same of short tags.
+module _ (first second : List ℕ) where
+  short-in-turn : shortPairAnswerOf first second ≡ firstNo (shortReadQuestions first) (λ r. Refused (refusalFrom 0 r))
+      (firstNo (shortReadQuestions second) (λ r. Refused (refusalFrom 1 r))
+      (comparedBy shortBetween (shortNumbers (shortTagOf first)) (shortNumbers (shortTagOf second))))
+  unfolding shortPairAnswerOf shortPairQuestions shortReadQuestions
+  short-in-turn = in-turn shortBetween (shortReadQuestions first) (shortReadQuestions second) _ _ (first-input shortLength first _)
+
+  pub short-first-refused : (r : Refusal) → shortReadAnswerOf first ≡ shortRead.Refused r → shortPairAnswerOf first second ≡ Refused (refusalFrom 0 r)
+  short-first-refused r e = short-in-turn ∙ short-questions-refused first _ _ r e
+
+  pub short-second-refused : (a : ShortTag) (r : Refusal) → shortReadAnswerOf first ≡ shortRead.Valid a → shortReadAnswerOf second ≡ shortRead.Refused r →
+      shortPairAnswerOf first second ≡ Refused (refusalFrom 1 r)
+  short-second-refused a r e g = short-in-turn ∙ (short-questions-valid first _ _ a e ∙ short-questions-refused second _ _ r g)
+
+  pub short-valid : (a b : ShortTag) → shortReadAnswerOf first ≡ shortRead.Valid a → shortReadAnswerOf second ≡ shortRead.Valid b →
+      shortPairAnswerOf first second ≡ comparedBy shortBetween (shortNumbers a) (shortNumbers b)
+  short-valid a b e g =
+      short-in-turn ∙ (short-questions-valid first _ _ a e ∙ (short-questions-valid second _ _ b g
+      ∙ rw (short-valid-reads first a e .holds, short-valid-reads second b g .holds)))
+
+-- The answer from the numbers of two tags by a rule, case by case.
+module _ (rule : Numbers → Numbers → ℕ) (u v : Numbers) where
   -- Tags of two plans are refused by 11.
-  pub compared-11 : (u .plan ≡ v .plan → ⊥) → Refused (refusalFrom 1 (refusalBy 11)) ≡ comparedOf u v
-  unfolding comparedOf compareQuestions from firstNo question
+  pub compared-11 : (u .plan ≡ v .plan → ⊥) → Refused (refusalFrom 1 (refusalBy 11)) ≡ comparedBy rule u v
+  unfolding comparedBy compareQuestions from firstNo question
   compared-11 other = rw (ne-eqb _ _ other)
 
   -- Past question 11 the answer is by question 12 and then by the rule.
-  pub compared-rule : u .plan ≡ v .plan → agreeing u v ≡ true → answerOf (outcome u v) ≡ comparedOf u v
-  unfolding comparedOf compareQuestions from firstNo question
+  pub compared-rule : u .plan ≡ v .plan → agreeing u v ≡ true → answerOf (outcomeBy rule u v) ≡ comparedBy rule u v
+  unfolding comparedBy compareQuestions from firstNo question
   compared-rule one t = rw (eq-eqb _ _ one, t)
 
   -- Equal tags have one component and one rank.
@@ -93,10 +126,10 @@ module _ (u v : Numbers) where
 
   module _ (one : u .plan ≡ v .plan) where
     -- "different components no chain": question 12 is answered "yes" there.
-    pub compared-components : (u .component ≡ v .component → ⊥) → NoChain ≡ comparedOf u v
+    pub compared-components : (u .component ≡ v .component → ⊥) → NoChain ≡ comparedBy rule u v
     unfolding answerOf agreeing
     compared-components other =
-        sym (ap answerOf (outcome-components u v (unequal-component other) other)) ∙ compared-rule one (rw (ne-eqb _ _ other))
+        sym (ap answerOf (outcome-components rule u v (unequal-component other) other)) ∙ compared-rule one (rw (ne-eqb _ _ other))
 
     module _ (same : u .component ≡ v .component) where
       -- In one component and with one rank it asks whether the tags are equal.
@@ -104,14 +137,14 @@ module _ (u v : Numbers) where
       unfolding agreeing
       agreeing-equal r = rw (eq-eqb _ _ same, eq-eqb _ _ r)
 
-      pub compared-12 : u .rank ≡ v .rank → equal u v ≡ false → Refused (refusalFrom 1 (refusalBy 12)) ≡ comparedOf u v
-      unfolding comparedOf compareQuestions from firstNo question
+      pub compared-12 : u .rank ≡ v .rank → equal u v ≡ false → Refused (refusalFrom 1 (refusalBy 12)) ≡ comparedBy rule u v
+      unfolding comparedBy compareQuestions from firstNo question
       compared-12 r t = rw (eq-eqb _ _ one, agreeing-equal r, t)
 
       -- "Equal tags give 0"
-      pub compared-equal : u .rank ≡ v .rank → equal u v ≡ true → Handovers 0 ≡ comparedOf u v
+      pub compared-equal : u .rank ≡ v .rank → equal u v ≡ true → Handovers 0 ≡ comparedBy rule u v
       unfolding answerOf
-      compared-equal r t = sym (ap answerOf (outcome-equal u v t)) ∙ compared-rule one (agreeing-equal r ∙ t)
+      compared-equal r t = sym (ap answerOf (outcome-equal rule u v t)) ∙ compared-rule one (agreeing-equal r ∙ t)
 
       -- With two ranks it is answered "yes", and the tag that comes first is u, or it is v.
       module _ (other : u .rank ≡ v .rank → ⊥) where
@@ -119,23 +152,26 @@ module _ (u v : Numbers) where
         unfolding agreeing
         agreeing-ranks = rw (eq-eqb _ _ same, ne-eqb _ _ other)
 
-        pub compared-first : comesFirst u v ≡ true → Handovers (between u v) ≡ comparedOf u v
+        pub compared-first : comesFirst u v ≡ true → Handovers (rule u v) ≡ comparedBy rule u v
         unfolding answerOf
-        compared-first f = sym (ap answerOf (outcome-first u v (unequal-rank other) same f)) ∙ compared-rule one agreeing-ranks
+        compared-first f = sym (ap answerOf (outcome-first rule u v (unequal-rank other) same f)) ∙ compared-rule one agreeing-ranks
 
-        pub compared-second : comesFirst u v ≡ false → Handovers (between v u) ≡ comparedOf u v
+        pub compared-second : comesFirst u v ≡ false → Handovers (rule v u) ≡ comparedBy rule u v
         unfolding answerOf
-        compared-second f = sym (ap answerOf (outcome-second u v (unequal-rank other) same f)) ∙ compared-rule one agreeing-ranks
+        compared-second f = sym (ap answerOf (outcome-second rule u v (unequal-rank other) same f)) ∙ compared-rule one agreeing-ranks
 
 -- Question 12 does not depend on the order of the tags.
 pub agreeing-symmetric : (u v : Numbers) → agreeing u v ≡ agreeing v u
 unfolding agreeing
 agreeing-symmetric u v = rw (eqb-symmetric (u .component) (v .component), eqb-symmetric (u .rank) (v .rank), equal-symmetric u v)
 
--- Nor does the answer from two tags' numbers, a refusal by 11 or 12 included.
+-- Nor does the answer from two tags' numbers by a rule that does not mind it, a refusal by 11 or 12 included.
+compared-turned : (rule : Numbers → Numbers → ℕ) (u v : Numbers) → outcomeBy rule u v ≡ outcomeBy rule v u → comparedBy rule u v ≡ comparedBy rule v u
+unfolding comparedBy compareQuestions
+compared-turned rule u v turned = rw (eqb-symmetric (u .plan) (v .plan), agreeing-symmetric u v, turned)
+
 pub compared-symmetric : (u v : Numbers) → comparedOf u v ≡ comparedOf v u
-unfolding comparedOf compareQuestions
-compared-symmetric u v = rw (eqb-symmetric (u .plan) (v .plan), agreeing-symmetric u v, outcome-symmetric u v)
+compared-symmetric u v = compared-turned between u v (outcome-symmetric u v)
 
 -- Two byte strings that both read answer the same in either order, a refusal by 11 or 12 included.
 pub pair-symmetric : (first second : List ℕ) (a b : Tag) → readAnswerOf first ≡ read.Valid a → readAnswerOf second ≡ read.Valid b →
@@ -143,11 +179,23 @@ pub pair-symmetric : (first second : List ℕ) (a b : Tag) → readAnswerOf firs
 pair-symmetric first second a b e g =
     pair-valid first second a b e g ∙ (compared-symmetric (numbers a) (numbers b) ∙ sym (pair-valid second first b a g e))
 
+pub short-pair-symmetric : (first second : List ℕ) (a b : ShortTag) → shortReadAnswerOf first ≡ shortRead.Valid a →
+    shortReadAnswerOf second ≡ shortRead.Valid b → shortPairAnswerOf first second ≡ shortPairAnswerOf second first
+short-pair-symmetric first second a b e g =
+    let u = shortNumbers a in let v = shortNumbers b in
+    short-valid first second a b e g ∙ (compared-turned shortBetween u v (short-symmetric u v) ∙ sym (short-valid second first b a g e))
+
 -- The answer from the bytes of two tags within the limit is that from their numbers.
 pub pair-tagBytes : (u v : Numbers) → withinLimit u ≡ true → withinLimit v ≡ true → pairAnswerOf (tagBytes u) (tagBytes v) ≡ comparedOf u v
 pair-tagBytes u v hu hv =
     pair-valid (tagBytes u) (tagBytes v) (tagWith u) (tagWith v) (tagBytes-read u hu) (tagBytes-read v hv)
     ∙ rw (numbers-tagWith u, numbers-tagWith v)
+
+pub pair-shortBytes : (u v : Numbers) → withinLimit u ≡ true → withinLimit v ≡ true →
+    shortPairAnswerOf (shortBytes u) (shortBytes v) ≡ comparedBy shortBetween (short u) (short v)
+pair-shortBytes u v hu hv =
+    short-valid (shortBytes u) (shortBytes v) (shortOf (tagWith u)) (shortOf (tagWith v)) (shortBytes-read u (within-short u hu))
+    (shortBytes-read v (within-short v hv)) ∙ rw (shortNumbers-shortOf u, shortNumbers-shortOf v)
 
 -- So is the answer from two tags that are looked up in a tag file.
 pub pair-tagFile : (f : ℕ → Numbers) (n u v : ℕ) → u < n → v < n → withinLimit (f u) ≡ true → withinLimit (f v) ≡ true →
@@ -158,7 +206,7 @@ pair-tagFile f n u v hu hv wu wv = rw (tagFile-lookup f n u hu, tagFile-lookup f
 pub pair-itself : (bytes : List ℕ) (t : Tag) → readAnswerOf bytes ≡ read.Valid t → pairAnswerOf bytes bytes ≡ Handovers 0
 pair-itself bytes t e =
     pair-valid bytes bytes t t e e
-    ∙ sym (compared-equal (numbers t) (numbers t) refl refl refl (equal-refl (numbers t)))
+    ∙ sym (compared-equal between (numbers t) (numbers t) refl refl refl (equal-refl (numbers t)))
 
 -- A number of handovers is what the rule says of two tags within the limit.
 pub record Counted (u v : Numbers) (k : ℕ) : Type 0 where
@@ -198,25 +246,49 @@ pair-most first second k e =
     let h = pair-counted first second k e in
     outcome-most _ _ fieldLimit k (h .first .depth) (h .second .depth) (h .count)
 
+-- Two places in a file of tags that have so many bytes: 9, and 7.
+pub record Places (wide : ℕ) (tags : List ℕ) (first second : ℕ) : Type 0 where
+  pub whole : length tags % wide ≡ 0
+  pub first-there : first < length tags / wide
+  pub second-there : second < length tags / wide
+
+module _ (wide : ℕ) (tags : List ℕ) (first second : ℕ) where
+  at-9 : (length tags % wide ≡ 0 → ⊥) → asked.Refused (refusalBy 9) ≡ askedOf (placesIn wide tags first second)
+  unfolding askedOf firstNo question
+  at-9 other = rw (ne-eqb (length tags % wide) 0 other)
+
+  at-whole : length tags % wide ≡ 0 → askedOf (positionQuestions first second (length tags / wide)) ≡ askedOf (placesIn wide tags first second)
+  unfolding askedOf firstNo question
+  at-whole whole = rw (eq-eqb (length tags % wide) 0 whole)
+
+  at-passed : asked.Passed ≡ askedOf (placesIn wide tags first second) → Places wide tags first second
+  unfolding askedOf positionQuestions positionQuestion question from
+  at-passed e =
+      let all = all-member (placesIn wide tags first second)
+      (first-all (placesIn wide tags first second) asked.Refused asked.Passed (λ r s. let z : _≡_ {A = ℕ} 0 1 = cc in omega arith) (sym e)) in
+      record {
+        whole = eqb-true _ _ (all _ (List·Memᴰ·head refl));
+        first-there = ltb-true _ _ (all _ (List·Memᴰ·tail (List·Memᴰ·head refl)));
+        second-there = ltb-true _ _ (all _ (List·Memᴰ·tail (List·Memᴰ·tail (List·Memᴰ·head refl))));
+      }
+
 -- The answer for two positions of a tag file: 9, 7, and then the two tags.
 module _ (tags : List ℕ) (first second : ℕ) where
   pub places-9 : (length tags % tagLength ≡ 0 → ⊥) → asked.Refused (refusalBy 9) ≡ askedOf (placeQuestions tags first second)
-  unfolding askedOf placeQuestions tagFileQuestion firstNo question
-  places-9 other = rw (ne-eqb (length tags % tagLength) 0 other)
+  unfolding placeQuestions
+  places-9 = at-9 tagLength tags first second
 
   pub places-whole : length tags % tagLength ≡ 0 → askedOf (positionQuestions first second (tagCount tags)) ≡ askedOf (placeQuestions tags first second)
-  unfolding askedOf placeQuestions tagFileQuestion firstNo question
-  places-whole whole = rw (eq-eqb (length tags % tagLength) 0 whole)
+  unfolding placeQuestions tagCount
+  places-whole = at-whole tagLength tags first second
 
   places-found : asked.Passed ≡ askedOf (placeQuestions tags first second) →
       (lookupPart tags first ≡ tagPart tags first) × (lookupPart tags second ≡ tagPart tags second)
-  unfolding askedOf placeQuestions positionQuestions positionQuestion tagFileQuestion question from
+  unfolding placeQuestions tagCount
   places-found e =
-      let all = all-member (placeQuestions tags first second)
-      (first-all (placeQuestions tags first second) asked.Refused asked.Passed (λ r s. let z : _≡_ {A = ℕ} 0 1 = cc in omega arith) (sym e)) in
-      let whole = eqb-true _ _ (all _ (List·Memᴰ·head refl)) in (
-        part-found tags first (sym (lookup-found tags first whole (ltb-true _ _ (all _ (List·Memᴰ·tail (List·Memᴰ·head refl)))))),
-        part-found tags second (sym (lookup-found tags second whole (ltb-true _ _ (all _ (List·Memᴰ·tail (List·Memᴰ·tail (List·Memᴰ·head refl))))))),
+      let p = at-passed tagLength tags first second e in (
+        part-found tags first (sym (lookup-found tags first (p .whole) (p .first-there))),
+        part-found tags second (sym (lookup-found tags second (p .whole) (p .second-there))),
       )
 
   module _ (answer : Asked) (e : answer ≡ askedOf (placeQuestions tags first second)) where
@@ -232,7 +304,7 @@ module _ (tags : List ℕ) (first second : ℕ) where
 
   pub pair-at-asked : length tags % tagLength ≡ 0 → pairAtAnswerOf tags first second
       ≡ afterAsked (askedOf (positionQuestions first second (tagCount tags))) Refused (pairAnswerOf (tagPart tags first) (tagPart tags second))
-  unfolding pairAtAnswerOf pairAtQuestions placeQuestions pairAnswerOf tagFileQuestion firstNo question
+  unfolding pairAtAnswerOf pairAtQuestions placeQuestions pairAnswerOf tagCount firstNo question
   pair-at-asked whole =
       rw (eq-eqb (length tags % tagLength) 0 whole)
       (first-append (positionQuestions first second (tagCount tags)) (pairQuestions (tagPart tags first) (tagPart tags second)) Refused _
@@ -256,3 +328,32 @@ pair-at-tagFile f n first second =
         let within = passed-within first second n e in
         rw (lookup-position (tagFile f n) n first (length-tagFile f n) (within .0), lookup-position (tagFile f n) n second (length-tagFile f n) (within .1))
     passed-parts (asked.Refused r) e = refl
+
+-- The same of short tags.
+module _ (tags : List ℕ) (first second : ℕ) where
+  pub short-places-9 : (length tags % shortLength ≡ 0 → ⊥) → asked.Refused (refusalBy 9) ≡ askedOf (shortPlaceQuestions tags first second)
+  unfolding shortPlaceQuestions
+  short-places-9 = at-9 shortLength tags first second
+
+  pub short-places-whole : length tags % shortLength ≡ 0 →
+      askedOf (positionQuestions first second (length tags / shortLength)) ≡ askedOf (shortPlaceQuestions tags first second)
+  unfolding shortPlaceQuestions
+  short-places-whole = at-whole shortLength tags first second
+
+  -- Both tags lie whole within a file that passed.
+  pub short-places-within : asked.Passed ≡ askedOf (shortPlaceQuestions tags first second) →
+      (shortLength * first + shortLength ≤ length tags) × (shortLength * second + shortLength ≤ length tags)
+  unfolding shortPlaceQuestions
+  short-places-within e =
+      let p = at-passed shortLength tags first second e in
+      (omega (arith, p .first-there), omega (arith, p .second-there))
+
+  module _ (answer : Asked) (e : answer ≡ askedOf (shortPlaceQuestions tags first second)) where
+    pub short-at-refused : (r : Refusal) → answer ≡ asked.Refused r → Refused r ≡ shortPairAtAnswerOf tags first second
+    unfolding shortPairAtAnswerOf shortPairAtQuestions
+    short-at-refused = asked-refused (shortPlaceQuestions tags first second) _ Refused _ answer e
+
+    pub short-at-passed : answer ≡ asked.Passed →
+        shortPairAnswerOf (partOf shortLength tags first) (partOf shortLength tags second) ≡ shortPairAtAnswerOf tags first second
+    unfolding shortPairAnswerOf shortPairAtAnswerOf shortPairAtQuestions
+    short-at-passed p = asked-passed (shortPlaceQuestions tags first second) _ Refused _ answer e p

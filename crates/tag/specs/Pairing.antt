@@ -1,18 +1,20 @@
 -- Paper 01: "From two tags the answer is one of: a number of handovers; no chain; a refusal." The rule itself, on numbers, is
--- `outcome` of interval_graph.
--- Vocabulary: agreeing, compareQuestions, pairQuestions, answerOf, comparedOf, pairAnswerOf, placeQuestions,
--- pairAtQuestions, pairAtAnswerOf.
-use Prim.Native.Nat.{ℕ}
+-- `outcome` of interval_graph. Paper 02, Q-1: the same for short tags, "with eight bytes a tag", by `shortOutcome`.
+-- Vocabulary: agreeing, compareQuestions, tagsQuestions, pairQuestions, answerOf, comparedBy, comparedOf, pairAnswerOf, placesIn,
+-- placeQuestions, pairAtQuestions, pairAtAnswerOf; shortPairQuestions, shortPairAnswerOf, shortPlaceQuestions, shortPairAtQuestions,
+-- shortPairAtAnswerOf.
+use Prim.Native.Nat.{ℕ, _/_}
 use mathlib.Core.Bool.{Bool, true, cond, _&&_}
 use mathlib.Core.List.{List, [], _∷_, _++_}
 use lib.Dec.{eqb}
-use Rattle.interval_graph.specs.Numbers.{Numbers, Outcome, apart, no-chain, equal, outcome}
+use lib.ListN.{length}
+use Rattle.interval_graph.specs.Numbers.{Numbers, Outcome, apart, no-chain, equal, outcomeBy, between, outcome, shortOutcome}
 use Rattle.refusals.specs.Question.{Question, question, from, firstNo, positionQuestions}
 use Rattle.tag.specs.declared.pairs.PairAnswer.{PairAnswer}
 use Rattle.tag.specs.declared.pairs.PairAnswer.the-variants.{Handovers, NoChain, Refused}
-use Rattle.tag_bytes.specs.Fields.{tagOf, numbers}
-use Rattle.tag_bytes.specs.Reading.{readQuestions}
-use Rattle.tag_bytes.specs.TagFile.{tagCount, tagPart, tagFileQuestion}
+use Rattle.tag_bytes.specs.Fields.{tagLength, shortLength, tagOf, numbers, shortTagOf, shortNumbers}
+use Rattle.tag_bytes.specs.Reading.{readQuestions, shortReadQuestions}
+use Rattle.tag_bytes.specs.TagFile.{partOf, tagPart, wholeQuestion}
 
 -- "two tags of equal component and equal rank agree in all fields"
 unfoldable pub agreeing : Numbers → Numbers → Bool
@@ -24,19 +26,25 @@ unfoldable pub compareQuestions : Numbers → Numbers → List Question
 compareQuestions u v = question 11 (eqb (u .plan) (v .plan)) ∷ question 12 (agreeing u v) ∷ []
 
 -- "With two … tags, … 9 and 10, are gone through for the first and then for the second." "The input is 1 where the second …
--- tag … is at fault, and for 11 and 12".
+-- tag … is at fault, and for 11 and 12". What is asked of the reading of either tag, and of their numbers u and v:
+abbrev pub tagsQuestions : (first second : List Question) → (u v : Numbers) → List Question
+tagsQuestions first second u v = first ++ from 1 (second ++ compareQuestions u v)
+
 unfoldable pub pairQuestions : List ℕ → List ℕ → List Question
 pairQuestions first second =
-    readQuestions first ++ from 1 (readQuestions second ++ compareQuestions (numbers (tagOf first)) (numbers (tagOf second)))
+    tagsQuestions (readQuestions first) (readQuestions second) (numbers (tagOf first)) (numbers (tagOf second))
 
 -- What the rule says, as an answer.
 unfoldable pub answerOf : Outcome → PairAnswer
 answerOf (apart count) = Handovers count
 answerOf no-chain = NoChain
 
--- The answer from the numbers of two tags that are both read.
-unfoldable pub comparedOf : Numbers → Numbers → PairAnswer
-comparedOf u v = firstNo (from 1 (compareQuestions u v)) Refused (answerOf (outcome u v))
+-- The answer from the numbers of two tags that are both read, by a rule.
+unfoldable pub comparedBy : (Numbers → Numbers → ℕ) → Numbers → Numbers → PairAnswer
+comparedBy rule u v = firstNo (from 1 (compareQuestions u v)) Refused (answerOf (outcomeBy rule u v))
+
+abbrev pub comparedOf : Numbers → Numbers → PairAnswer
+comparedOf u v = comparedBy between u v
 
 -- The answer for every two byte strings: the first "no", or what the rule says.
 unfoldable pub pairAnswerOf : List ℕ → List ℕ → PairAnswer
@@ -45,8 +53,11 @@ pairAnswerOf first second =
 
 -- The same for two positions of a tag file: 9 of the file, 7 of the first position and of the second, and then what is asked of the
 -- two tags found there.
+abbrev pub placesIn : (wide : ℕ) → List ℕ → (first second : ℕ) → List Question
+placesIn wide tags first second = wholeQuestion wide tags ∷ positionQuestions first second (length tags / wide)
+
 unfoldable pub placeQuestions : List ℕ → (first second : ℕ) → List Question
-placeQuestions tags first second = tagFileQuestion tags ∷ positionQuestions first second (tagCount tags)
+placeQuestions tags first second = placesIn tagLength tags first second
 
 unfoldable pub pairAtQuestions : List ℕ → (first second : ℕ) → List Question
 pairAtQuestions tags first second = placeQuestions tags first second ++ pairQuestions (tagPart tags first) (tagPart tags second)
@@ -55,3 +66,27 @@ unfoldable pub pairAtAnswerOf : List ℕ → (first second : ℕ) → PairAnswer
 pairAtAnswerOf tags first second =
     firstNo (pairAtQuestions tags first second) Refused
     (answerOf (outcome (numbers (tagOf (tagPart tags first))) (numbers (tagOf (tagPart tags second)))))
+
+-- Q-1: "Checks 8 to 12 apply with eight bytes a tag." The answer for every two byte strings, as short tags.
+unfoldable pub shortPairQuestions : List ℕ → List ℕ → List Question
+shortPairQuestions first second =
+    tagsQuestions (shortReadQuestions first) (shortReadQuestions second) (shortNumbers (shortTagOf first)) (shortNumbers (shortTagOf second))
+
+unfoldable pub shortPairAnswerOf : List ℕ → List ℕ → PairAnswer
+shortPairAnswerOf first second =
+    firstNo (shortPairQuestions first second) Refused
+    (answerOf (shortOutcome (shortNumbers (shortTagOf first)) (shortNumbers (shortTagOf second))))
+
+-- The same for two positions of a file of short tags.
+unfoldable pub shortPlaceQuestions : List ℕ → (first second : ℕ) → List Question
+shortPlaceQuestions tags first second = placesIn shortLength tags first second
+
+unfoldable pub shortPairAtQuestions : List ℕ → (first second : ℕ) → List Question
+shortPairAtQuestions tags first second =
+    shortPlaceQuestions tags first second ++ shortPairQuestions (partOf shortLength tags first) (partOf shortLength tags second)
+
+unfoldable pub shortPairAtAnswerOf : List ℕ → (first second : ℕ) → PairAnswer
+shortPairAtAnswerOf tags first second =
+    let u = shortNumbers (shortTagOf (partOf shortLength tags first)) in
+    let v = shortNumbers (shortTagOf (partOf shortLength tags second)) in
+    firstNo (shortPairAtQuestions tags first second) Refused (answerOf (shortOutcome u v))

@@ -1,6 +1,7 @@
 -- `tag::pairs::compare` meets its contract: question 11, question 12 where it can be answered "no", and then the cases of the rule.
 -- Assumes nothing.
 use mathlib.Core.Path.{sym, ap, _∙_}
+use Rattle.interval_graph.specs.Numbers.{between}
 use Rattle.interval_graph.proofs.Outcome.{comesFirst-depth, comesFirst-not-depth}
 use Rattle.tag.specs.declared.pairs.PairAnswer.the-variants.{Handovers}
 use Rattle.tag_bytes.specs.Fields.{numbers}
@@ -18,17 +19,17 @@ from-requires c κs = search needs
 
 returns : tie.Need-returns
 unfolding numbers
-returns c = rw (c .from .ensures, c .before .by .ensures) (compared-11 _ _ (c .before .before .if1 .taken))
+returns c = rw (c .from .ensures, c .before .by .ensures) (compared-11 between _ _ (c .before .before .if1 .taken))
 
 returns-2 : tie.Need-returns-2
 unfolding numbers
-returns-2 c = compared-components _ _ (c .before .before .before .if1 .left) (c .if2 .taken)
+returns-2 c = compared-components between _ _ (c .before .before .before .if1 .left) (c .if2 .taken)
 
 one-window-requires : tie.Need-one-window-requires
 one-window-requires c κs = let d = c .before .before .before in (d .before .before .before .if1 .left, (d .if2 .left, c .if3 .taken))
 
 returns-3 : tie.Need-returns-3
-returns-3 c = c .one-window .ensures
+returns-3 c = c .one-window .ensures between
 
 comes-first-requires : tie.Need-comes-first-requires
 comes-first-requires c κs = search needs
@@ -44,7 +45,7 @@ returns-4 c = let f = c .before .before .before in
     let d = f in
     let e = d .before .before .before in
     ap Handovers (c .between .ensures)
-    ∙ compared-first _ _ (e .before .before .before .if1 .left) (e .if2 .left) (d .if3 .left)
+    ∙ compared-first between _ _ (e .before .before .before .if1 .left) (e .if2 .left) (d .if3 .left)
     (sym (c .before .before .comes-first .ensures) ∙ c .before .if4 .taken)
 
 between-requires-2 : tie.Need-between-requires-2
@@ -58,7 +59,7 @@ returns-5 c = let f = c .before .before .before in
     let d = f in
     let e = d .before .before .before in
     ap Handovers (c .between2 .ensures)
-    ∙ compared-second _ _ (e .before .before .before .if1 .left) (e .if2 .left) (d .if3 .left)
+    ∙ compared-second between _ _ (e .before .before .before .if1 .left) (e .if2 .left) (d .if3 .left)
     (sym (c .before .before .comes-first .ensures) ∙ c .before .if4 .left)
 
 pub compare-spec : {M : Type 1} → statement M

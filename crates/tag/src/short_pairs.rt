@@ -1,0 +1,97 @@
+// The answer from two short tags, and from two positions of a file of them: as `pairs`, with eight bytes a tag and the shorter rule.
+use crate::pairs::PairAnswer;
+use crate::pairs::comes_first;
+use crate::pairs::one_window;
+use refusals::Asked;
+use refusals::Refusal;
+use tag_bytes::ShortRead;
+use tag_bytes::ShortTag;
+use tag_bytes::Tag;
+ghost use mathlib.Core.Path.{_≡_};
+ghost use mathlib.Core.Bool.{true};
+ghost use Prim.Native.Nat.{_+_, _*_, _≤_};
+ghost use lib.ListN.{length};
+ghost use Rattle.interval_graph.specs.Numbers.{shortBetween};
+ghost use Rattle.refusals.specs.Question.{askedOf};
+ghost use Rattle.tag_bytes.specs.Fields.{numbers, withinLimit, fieldLimit, shortLength};
+ghost use Rattle.tag_bytes.specs.TagFile.{partOf};
+ghost use Rattle.tag.specs.Pairing.{comparedBy, shortPairAnswerOf, shortPlaceQuestions, shortPairAtAnswerOf};
+
+// The count for two windows of one component of an even plan, u the one that comes first.
+fn short_between(u: Tag, v: Tag) -> u16
+    requires { ⌜ u .depth ≤ v .depth ⌝ }
+    requires { ⌜ v .depth ≤ fieldLimit ⌝ }
+    ensures { λ r. ⌜ r ≡ shortBetween (numbers u) (numbers v) ⌝ }
+{
+    let levels = v.depth - u.depth;
+    if u.rank < v.rank {
+        return levels + 1;
+    }
+    levels
+}
+
+// Questions 11 and 12, then the rule, as `compare` of long tags.
+fn short_compare(a: Tag, b: Tag) -> PairAnswer
+    requires { ⌜ withinLimit (numbers a) ≡ true ⌝ }
+    requires { ⌜ withinLimit (numbers b) ≡ true ⌝ }
+    ensures { λ r. ⌜ r ≡ comparedBy shortBetween (numbers a) (numbers b) ⌝ }
+{
+    if a.plan != b.plan {
+        return PairAnswer::Refused(Refusal::by(11).from(1));
+    }
+    if a.component != b.component {
+        return PairAnswer::NoChain;
+    }
+    if a.rank == b.rank {
+        return one_window(a, b);
+    }
+    if comes_first(a, b) {
+        return PairAnswer::Handovers(short_between(a, b));
+    }
+    PairAnswer::Handovers(short_between(b, a))
+}
+
+// The answer from the bytes of two short tags. The second is not read where the first is refused.
+pub fn short_pair(first: &[u8], second: &[u8]) -> PairAnswer
+    ensures { λ r. ⌜ r ≡ shortPairAnswerOf (now (first .entry)) (now (second .entry)) ⌝ }
+{
+    let first_read = ShortTag::read(first);
+    let ShortRead::Valid(a) = first_read else {
+        return PairAnswer::Refused(ShortTag::refusal(first_read, 0));
+    };
+    let second_read = ShortTag::read(second);
+    let ShortRead::Valid(b) = second_read else {
+        return PairAnswer::Refused(ShortTag::refusal(second_read, 1));
+    };
+    short_compare(a.with_last(0), b.with_last(0))
+}
+
+// Question 9 of a file of short tags, and 7 of two positions in it.
+fn ask_short_places(tags: &[u8], first: usize, second: usize) -> Asked
+    ensures { λ r. ⌜ r ≡ askedOf (shortPlaceQuestions (now (tags .entry)) first second) ⌝ }
+{
+    if tags.len() % ShortTag::LENGTH != 0 {
+        return Asked::Refused(Refusal::by(9));
+    }
+    refusals::ask_positions(first, second, tags.len() / ShortTag::LENGTH)
+}
+
+// The eight bytes of the short tag at a position that the file has.
+fn short_part(tags: &[u8], at: usize) -> &[u8]
+    requires { ⌜ shortLength * at + shortLength ≤ length (now tags) ⌝ }
+    ensures { λ r. ⌜ now r ≡ partOf shortLength (now (tags .entry)) at ⌝ }
+{
+    let start = ShortTag::LENGTH * at;
+    &tags[start..start + ShortTag::LENGTH]
+}
+
+// The answer from the short tags at two positions of a file of them.
+pub fn short_pair_at(tags: &[u8], first: usize, second: usize) -> PairAnswer
+    ensures { λ r. ⌜ r ≡ shortPairAtAnswerOf (now (tags .entry)) first second ⌝ }
+{
+    let asked = ask_short_places(tags, first, second);
+    if let Asked::Refused(refusal) = asked {
+        return PairAnswer::Refused(refusal);
+    }
+    short_pair(short_part(tags, first), short_part(tags, second))
+}
