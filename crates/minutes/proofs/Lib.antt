@@ -3,9 +3,11 @@
 --   Searching     the searches inside the passes
 --   Prepared      what they find in an accepted plan: parents and lasts
 --   SingleTabled  the answers, and a table that holds any plan's
+--   EvenTabled    the same for an even plan
 --   Plan12        the worked example, by computation
 pub mod Reading
 pub mod Searching
 pub mod Prepared
 pub mod SingleTabled
+pub mod EvenTabled
 pub mod Plan12

@@ -11,7 +11,7 @@ ghost use Rattle.plan.specs.Validation.{AcceptedPlan};
 ghost use Rattle.plan.specs.AcceptedWindows.{AcceptedWindows};
 ghost use Rattle.minutes.specs.Tables.{offsetAt, boundAt};
 
-fn window_at(file: &[u8], position: usize) -> Window
+pub(crate) fn window_at(file: &[u8], position: usize) -> Window
     requires { ⌜ AcceptedPlan (now file) ⌝ }
     requires { ⌜ position < windowCount (now file) ⌝ }
     ensures { λ r. ⌜ r ≡ windowAt (now (file .entry)) position ⌝ }

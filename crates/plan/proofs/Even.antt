@@ -66,18 +66,18 @@ module _ (file : List ℕ) where
   unfolding evenQuestions askedOf
   rising-end before v done s = asking-end (endsAsked file) Refused Passed (windowCount file) v done (s .asking)
 
-  module _ (before v : ℕ) (left : v < windowCount file) (s : Rising file before v) where
-    pub rising-turn : before ≤ endOf (windowAt file v) → Rising file (endOf (windowAt file v)) (v + 1)
+  module _ (before v end : ℕ) (left : v < windowCount file) (s : Rising file before v) (read : end ≡ endOf (windowAt file v)) where
+    pub rising-turn : before ≤ end → Rising file end (v + 1)
     unfolding endBefore
     rising-turn rises =
         record {
-          previous = rw (add-one v);
+          previous = rw (add-one v) read;
           asking = asking-turn (endsAsked file) Refused Passed (windowCount file) v left (s .asking)
-              (rw (← s .previous) (ask-even before (windowAt file v) rises));
+              (rw (← s .previous) (ask-even before (windowAt file v) (omega (arith, read))));
         }
 
-    pub rising-refused : endOf (windowAt file v) < before → Refused (refusalAbout v (refusalBy 13)) ≡ askedOf (evenQuestions file)
+    pub rising-refused : end < before → Refused (refusalAbout v (refusalBy 13)) ≡ askedOf (evenQuestions file)
     unfolding evenQuestions askedOf
     rising-refused falls =
         asking-refused (endsAsked file) Refused Passed (windowCount file) v left (s .asking) (refusalBy 13)
-        (rw (← s .previous) (ask-13 before (windowAt file v) falls))
+        (rw (← s .previous) (ask-13 before (windowAt file v) (omega (arith, read))))
