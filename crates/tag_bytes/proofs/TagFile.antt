@@ -2,16 +2,17 @@
 -- tag after tag.
 -- Vocabulary: lookup-*, found-within, part-*, length-*, tagFile-*, shortTagFile-*.
 -- Assumes nothing.
-use Prim.Native.Nat.{ℕ, suc, _+_, _*_, _/_, _%_, _≤_, _<_}
+use Prim.Native.Nat.{ℕ, zero, suc, _+_, _*_, _/_, _%_, _≤_, _<_}
 use mathlib.Core.Path.{_≡_, refl, sym, ap, _∙_}
-use mathlib.Core.List.{List, [], _++_, append-nil, flatMap, List·Memᴰ·head, List·Memᴰ·tail}
+use mathlib.Core.List.{List, [], _∷_, _++_, append-nil, flatMap, List·Memᴰ·head, List·Memᴰ·tail}
 use native.Mathlib.Omega.{arith}
-use lib.ListN.{length, take, drop}
+use lib.ListN.{length}
 use borrow.Author.Tests.{ltb-true, eq-eqb, ne-eqb, lt-ltb, le-ltb}
-use Rattle.sequences.specs.Table.{table, overwritten}
+use Rattle.sequences.specs.Table.{table}
 use Rattle.sequences.proofs.Table.{length-table, getD-table, table-cong}
-use Rattle.sequences.proofs.Records.{length-records, record-part, records-turn}
-use Rattle.interval_graph.specs.Numbers.{Numbers}
+use Rattle.sequences.proofs.FlatMap.{flatMap-append}
+use Rattle.sequences.proofs.Records.{length-records, record-part}
+use Rattle.interval_graph.specs.Numbers.{Numbers, short}
 use Rattle.refusals.specs.declared.Refusal.{Refusal}
 use Rattle.refusals.specs.Question.{refusalBy, question, positionQuestion, firstNo}
 use Rattle.refusals.proofs.Question.{first-all, all-member}
@@ -82,12 +83,6 @@ module _ (f : ℕ → Numbers) where
   unfolding tagFile
   tagFile-cong g n e = ap (flatMap tagBytes) (table-cong f g n e)
 
-  -- One tag more: the turn of a pass that fills a table with tags, where each goes to the front of what is left.
-  pub tagFile-turn : (v : ℕ) (l : List ℕ) → take (tagLength * v) (overwritten l (tagFile f v)) ++ overwritten
-      (drop (tagLength * v) (overwritten l (tagFile f v))) (tagBytes (f v)) ≡ overwritten l (tagFile f (suc v))
-  unfolding tagFile
-  tagFile-turn v l = records-turn tagBytes tagLength length-tagBytes f v l
-
   -- The same of short tags.
   pub length-shortTagFile : (n : ℕ) → length (shortTagFile f n) ≡ shortLength * n
   unfolding shortTagFile
@@ -103,7 +98,9 @@ module _ (f : ℕ → Numbers) where
   unfolding shortTagFile
   shortTagFile-cong g n e = ap (flatMap shortBytes) (table-cong f g n e)
 
-  pub shortTagFile-turn : (v : ℕ) (l : List ℕ) → take (shortLength * v) (overwritten l (shortTagFile f v)) ++ overwritten
-      (drop (shortLength * v) (overwritten l (shortTagFile f v))) (shortBytes (f v)) ≡ overwritten l (shortTagFile f (suc v))
-  unfolding shortTagFile
-  shortTagFile-turn v l = records-turn shortBytes shortLength length-shortBytes f v l
+  -- The rank of the last does not count.
+  pub shortTagFile-short : (n : ℕ) → shortTagFile (λ v. short (f v)) n ≡ shortTagFile f n
+  unfolding shortTagFile table shortBytes short flatMap
+  shortTagFile-short zero = refl
+  shortTagFile-short (suc n) =
+      rw (flatMap-append shortBytes (table (λ v. short (f v)) n) (short (f n) ∷ []), flatMap-append shortBytes (table f n) (f n ∷ []), shortTagFile-short n)

@@ -18,6 +18,7 @@ use Rattle.wire.proofs.LittleEndian.{placed-overwritten}
 use Rattle.refusals.proofs.Question.{first-all, all-member}
 use Rattle.tag_bytes.specs.declared.reader.Tag.{Tag}
 use Rattle.tag_bytes.specs.declared.reader.TagRead.the-variants.{Valid}
+use Rattle.tag_bytes.specs.declared.writer.WriteAnswer.{WriteAnswer}
 use Rattle.tag_bytes.specs.declared.writer.WriteAnswer.the-variants.{Written, Refused}
 use Rattle.tag_bytes.specs.declared.reader.ShortTag.{ShortTag}
 use Rattle.tag_bytes.specs.declared.reader.ShortRead.the-variants as shortRead
@@ -119,6 +120,17 @@ module _ (n : Numbers) (out : List ℕ) where
   pub short-refused-after : (r : Refusal) → out ≡ afterShortWrite (Refused r) n out
   unfolding afterShortWrite
   short-refused-after r = refl
+
+-- What fits is written.
+pub write-puts : (n : Numbers) (out part : List ℕ) (answer : WriteAnswer) → tagLength ≤ length out → withinLimit n ≡ true →
+    answer ≡ writeAnswerOf n out → part ≡ afterWrite answer n out → part ≡ overwritten out (tagBytes n)
+unfolding afterWrite
+write-puts n out part answer room within answered stored = stored ∙ rw (answered ∙ sym (write-written n out room within))
+
+pub short-write-puts : (n : Numbers) (out part : List ℕ) (answer : WriteAnswer) → shortLength ≤ length out → withinLimit n ≡ true →
+    answer ≡ shortWriteAnswerOf n out → part ≡ afterShortWrite answer n out → part ≡ overwritten out (shortBytes n)
+unfolding afterShortWrite
+short-write-puts n out part answer room within answered stored = stored ∙ rw (answered ∙ sym (short-write-written n out room within))
 
 -- The bytes of a tag within the limit read as that tag.
 pub tagBytes-read : (n : Numbers) → withinLimit n ≡ true → readAnswerOf (tagBytes n) ≡ Valid (tagWith n)

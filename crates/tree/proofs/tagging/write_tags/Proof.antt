@@ -2,20 +2,22 @@
 -- Assumes nothing.
 use Prim.Native.Nat.{_-_}
 use Rattle.tree.specs.Tagging.{numbersIn}
-use Rattle.tree.proofs.Tagged.{Tagged, tagged-start, tagged-turn, tagged-end}
+use Rattle.tag_bytes.specs.Fields.{tagBytes}
+use Rattle.tag_bytes.specs.TagFile.{tagFile}
+use Rattle.tag_bytes.proofs.Tagged.{Tagged, tagged-start, tag-turn, tagged-end}
 use borrow.Author.Needs.{needs}
 use Rattle.tree.proofs.tagging.write_tags.Statement.{statement}
 use Rattle.tree.proofs.tagging.write_tags.Tie as tie
 
 abbrev Inv-loop : tie.InvT-loop
-Inv-loop windows plan components depths ranks last-ranks tags₀ position₀ tags position = Tagged
+Inv-loop windows plan components depths ranks last-ranks tags₀ position₀ tags position = Tagged tagBytes
     (numbersIn plan components depths ranks last-ranks) windows tags₀ tags position
 
 abbrev μ-loop : tie.MeasureT-loop
 μ-loop windows plan components depths ranks last-ranks tags₀ position₀ tags position = windows - position
 
 loop-holds : tie.Need-loop-holds Inv-loop μ-loop
-loop-holds c = tagged-start _ _ _
+loop-holds c = tagged-start _ _ _ _
 
 mul-at : tie.Need-mul-at Inv-loop μ-loop
 mul-at c = search needs
@@ -66,13 +68,14 @@ loop-again : tie.Need-loop-again Inv-loop μ-loop
 loop-again c = let w = c .before .before .write .ensures in
     let q = c .before .before .before .before .before .before .before .before .before .before .before .before .before .before .before .pre in
     let h = c .before .before .before .before .before .before .before .before .loop-test .taken in
-    tagged-turn _ _ _ h (q .0 .fit _ h) _ _ _ _ (q .1) (w .0) (w .1) (c .before .before .before .before .before .before .before .before .before .loop .inv)
+    tag-turn _ _ _ h (q .0 .fit _ h) _ _ _ _ (q .1) (w .0) (w .1) (c .before .before .before .before .before .before .before .before .before .loop .inv)
 
 same-length : tie.Need-same-length Inv-loop μ-loop
 same-length c = search needs
 
 returns : tie.Need-returns Inv-loop μ-loop
-returns c = tagged-end _ _ _ _ _ (c .loop-test .left) (c .before .loop .inv)
+unfolding tagFile
+returns c = tagged-end _ _ _ _ _ _ (c .loop-test .left) (c .before .loop .inv)
 
 pub write-tags-spec : {M : Type 1} → statement M
 write-tags-spec =
