@@ -96,7 +96,7 @@ module _ {file : List ℕ} {windows : ℕ} (plan : AcceptedWindows file windows)
       ∙ (rw first (overwritten-again before _ _ (length-table (lastOf file) windows ∙ sym (length-table (lastRankOf file) windows)))))
 
 -- The answer of the call that fills the parents and the lasts, as that of all five tables.
-abbrev built : List ℕ → TableAnswer → BuildAnswer
+abbrev pub built : List ℕ → TableAnswer → BuildAnswer
 built file (TableAnswer.Filled windows) = Built (planNumber file) windows (componentCount file)
 built file (TableAnswer.Refused refusal) = Refused refusal
 

@@ -1,0 +1,3 @@
+-- Paper 01's plan 12 has no short tags, since window 1 ends before window 0; the first plan of paper 01's cases that is even has. Both
+-- come out of the definitions by computation.
+-- Assumes nothing.
