@@ -7,9 +7,9 @@ use tag::LookupAnswer;
 use tag::PairAnswer;
 use tag::Tag;
 ghost use mathlib.Core.Path.{_≡_};
-ghost use Rattle.tag.specs.Pairing.{pairAnswerOf, pairAtAnswerOf};
+ghost use Rattle.tag.specs.Pairing.{pairAnswerOf, pairAtAnswerOf, shortPairAnswerOf, shortPairAtAnswerOf};
 ghost use Rattle.tag_bytes.specs.TagFile.{lookupAnswerOf};
-ghost use Rattle.tag_bytes.specs.Writing.{writeAnswerOf, afterWrite};
+ghost use Rattle.tag_bytes.specs.Writing.{writeAnswerOf, afterWrite, shortWriteAnswerOf, afterShortWrite};
 ghost use Rattle.packing.specs.Packing.{packedPair, packedLookup, packedWrite};
 ghost use Rattle.poddreshi.specs.Lent.{offsetAfter};
 
@@ -62,4 +62,35 @@ pub extern "C" fn poddreshi_write(
     ensures { λ _. ⌜ now (out .exit) ≡ afterWrite (writeAnswerOf (record { plan = plan; component = component; depth = depth; rank = rank; last = last }) (now (out .entry))) (record { plan = plan; component = component; depth = depth; rank = rank; last = last }) (now (out .entry)) ⌝ }
 {
     pack_write(tag::write(plan, component, depth, rank, last, out))
+}
+
+// The answer from the bytes of two short tags.
+#[no_mangle]
+pub extern "C" fn poddreshi_short_pair(first: &[u8], second: &[u8]) -> u64
+    ensures { λ r. ⌜ r ≡ packedPair (shortPairAnswerOf (now (first .entry)) (now (second .entry))) ⌝ }
+{
+    pack_pair(tag::short_pair(first, second))
+}
+
+// The answer from the short tags at two positions of a file of them.
+#[no_mangle]
+pub extern "C" fn poddreshi_short_pair_at(tags: &[u8], first: usize, second: usize) -> u64
+    ensures { λ r. ⌜ r ≡ packedPair (shortPairAtAnswerOf (now (tags .entry)) first second) ⌝ }
+{
+    pack_pair(tag::short_pair_at(tags, first, second))
+}
+
+// Fills the first eight bytes of `out` with a short tag.
+#[no_mangle]
+pub extern "C" fn poddreshi_short_write(
+    plan: u16,
+    component: u16,
+    depth: u16,
+    rank: u16,
+    out: &mut [u8],
+) -> u64
+    ensures { λ r. ⌜ r ≡ packedWrite (shortWriteAnswerOf (record { plan = plan; component = component; depth = depth; rank = rank; last = 0 }) (now (out .entry))) ⌝ }
+    ensures { λ _. ⌜ now (out .exit) ≡ afterShortWrite (shortWriteAnswerOf (record { plan = plan; component = component; depth = depth; rank = rank; last = 0 }) (now (out .entry))) (record { plan = plan; component = component; depth = depth; rank = rank; last = 0 }) (now (out .entry)) ⌝ }
+{
+    pack_write(tag::short_write(plan, component, depth, rank, out))
 }

@@ -1,0 +1,19 @@
+-- `poddreshi::tags::poddreshi_short_pair` meets its contract: the answer of the call below it, packed.
+-- Assumes nothing.
+use mathlib.Core.Path.{ap, _∙_}
+use Rattle.packing.specs.Packing.{packedPair}
+use borrow.Author.Needs.{needs}
+use Rattle.poddreshi.proofs.tags.poddreshi_short_pair.Statement.{statement}
+use Rattle.poddreshi.proofs.tags.poddreshi_short_pair.Tie as tie
+
+short-pair-requires : tie.Need-short-pair-requires
+short-pair-requires c κs = search needs
+
+pack-pair-requires : tie.Need-pack-pair-requires
+pack-pair-requires c κs = search needs
+
+returns : tie.Need-returns
+returns c = c .pack-pair .ensures ∙ ap packedPair (c .before .short-pair .ensures)
+
+pub poddreshi-short-pair-spec : {M : Type 1} → statement M
+poddreshi-short-pair-spec = tie.close (tie.spec short-pair-requires pack-pair-requires returns)
