@@ -21,7 +21,7 @@ use Rattle.plan.proofs.Accepted.{accepted-validated}
 use Rattle.plan.proofs.Calls.{plan-accepted}
 use Rattle.plan.proofs.Overlap.{interval-order}
 use Rattle.tag_bytes.specs.declared.reader.Tag.{Tag}
-use Rattle.tag_bytes.specs.Fields.{tagOf, tagWith, tagBytes}
+use Rattle.tag_bytes.specs.Fields.{tagOf, tagWith, tagBytes, shortBytes}
 use Rattle.tag_bytes.proofs.Fields.{tagOf-tagBytes}
 use Rattle.tag_bytes.proofs.TagFile.{tagFile-lookup}
 use Rattle.reaching.specs.declared.ReachAnswer.the-variants as ReachAnswer
@@ -52,7 +52,7 @@ unplanned n = record { plan = 0; component = n .component; depth = n .depth; ran
 
 -- The bytes after the plan number are the tag's but for the plan number.
 unplanned-bytes : (n : Numbers) → tagBytes (unplanned n) ≡ bytes16 0 ++ drop 2 (tagBytes n)
-unfolding unplanned tagBytes bytes16
+unfolding unplanned tagBytes shortBytes bytes16
 unplanned-bytes n = refl
 
 -- Equal bytes after the plan number are equal numbers but for the plan number.
@@ -63,7 +63,7 @@ numbers-equal m n e =
 
 bytes-equal : (m n : Numbers) → m .component ≡ n .component → m .depth ≡ n .depth → m .rank ≡ n .rank → m .last ≡ n .last →
     drop 2 (tagBytes m) ≡ drop 2 (tagBytes n)
-unfolding tagBytes bytes16
+unfolding tagBytes shortBytes bytes16
 bytes-equal m n c d r l = rw (c, d, r, l)
 
 tag-bytes : (file : List ℕ) (v : ℕ) → v < windowCount file → tagAt file v ≡ tagBytes (numbersAt file v)

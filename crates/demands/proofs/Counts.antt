@@ -27,7 +27,7 @@ use Rattle.plan.proofs.Overlap.{interval-order}
 use Rattle.plan.proofs.Calls.{plan-accepted}
 use Rattle.tag.specs.declared.pairs.PairAnswer.{PairAnswer}
 use Rattle.tag.specs.declared.pairs.PairAnswer.the-variants as PairAnswer
-use Rattle.tag.specs.Pairing.{agreeing, compareQuestions, answerOf, comparedOf, pairAnswerOf}
+use Rattle.tag.specs.Pairing.{agreeing, compareQuestions, answerOf, comparedBy, pairAnswerOf}
 use Rattle.tag.proofs.Pairing.{pair-tagFile}
 use Rattle.numbering.specs.Tables.{numbersAt}
 use Rattle.path.specs.declared.answers.ChainAnswer.{ChainAnswer}
@@ -84,10 +84,10 @@ module _ (file : List ℕ) (ok : AcceptedPlan file) (u v : ℕ) (hu : u < window
       rw one (equal-refl (numbersAt file v))) (λ t. refl)
 
   -- So the answer from the two tags is what the rule says.
-  pair-rule : pairAnswerOf (tagAt file u) (tagAt file v)
+  pub pair-rule : pairAnswerOf (tagAt file u) (tagAt file v)
       ≡ answerOf (outcome (numbersOf (windowCount file) (overlaps file) (planNumber file) u)
       (numbersOf (windowCount file) (overlaps file) (planNumber file) v))
-  unfolding tagAt numbersAt numbersOf comparedOf compareQuestions question from firstNo
+  unfolding tagAt numbersAt numbersOf comparedBy compareQuestions question from firstNo
   pair-rule =
       pair-tagFile (numbersAt file) (windowCount file) u v hu hv (window-within file ok u hu) (window-within file ok v hv)
       ∙ rw (eq-eqb (planNumber file) (planNumber file) refl, agree)

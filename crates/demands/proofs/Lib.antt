@@ -1,13 +1,15 @@
--- The statements of specs/, proved: Refusals, Tree, EndToEnd (`demand-3`, in Counts), Calls, Cases.
+-- The statements of specs/, proved: Refusals, Tree, EndToEnd (`demand-3`, in Counts), Calls, Short, Cases.
 --   Refusals  demand 1
 --   Tree      demand 2
 --   Counts    demand 3, of the definitions that the calls answer by
 --   Running   what the call that runs everything needs of them
 --   Calls     reach and sameness
+--   Short     Q-1: short tags
 --   Cases     the cases marked P
 pub mod Refusals
 pub mod Tree
 pub mod Counts
 pub mod Running
 pub mod Calls
+pub mod Short
 pub mod Cases

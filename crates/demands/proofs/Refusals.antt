@@ -5,28 +5,31 @@ use mathlib.Core.{Bool.true, Bool.false, Bool.cond, Path._≡_, Path.refl, Path.
 use mathlib.Core.{List._∷_}
 use native.Mathlib.Omega.{arith}
 use Rattle.sequences.proofs.Tests.{truth}
-use Rattle.interval_graph.specs.Numbers.{Outcome, apart, no-chain, outcome}
+use Rattle.interval_graph.specs.Numbers.{Outcome, apart, no-chain, outcome, shortOutcome}
 use Rattle.refusals.specs.declared.Refusal.{Refusal}
 use Rattle.refusals.specs.Question.{Question, firstNo}
 use Rattle.refusals.proofs.Question.{first-yes, first-no}
 use Rattle.plan.specs.declared.questions.Validation.the-variants as Validation
 use Rattle.plan.specs.Validation.{validateAnswerOf}
 use Rattle.tag_bytes.specs.declared.reader.TagRead.the-variants as TagRead
+use Rattle.tag_bytes.specs.declared.reader.ShortRead.the-variants as ShortRead
 use Rattle.tag_bytes.specs.declared.writer.WriteAnswer.the-variants as WriteAnswer
 use Rattle.tag_bytes.specs.declared.tag_file.LookupAnswer.the-variants as LookupAnswer
 use Rattle.tag.specs.declared.pairs.PairAnswer.the-variants as PairAnswer
-use Rattle.tag_bytes.specs.Fields.{tagOf, numbers}
-use Rattle.tag_bytes.specs.Reading.{readAnswerOf}
-use Rattle.tag_bytes.specs.Writing.{writeAnswerOf, afterWrite}
-use Rattle.tag_bytes.specs.TagFile.{tagPart, lookupAnswerOf}
+use Rattle.tag_bytes.specs.Fields.{tagOf, numbers, shortLength, shortTagOf, shortNumbers}
+use Rattle.tag_bytes.specs.Reading.{readAnswerOf, shortReadAnswerOf}
+use Rattle.tag_bytes.specs.Writing.{writeAnswerOf, afterWrite, shortWriteAnswerOf, afterShortWrite}
+use Rattle.tag_bytes.specs.TagFile.{partOf, tagPart, lookupAnswerOf}
 use Rattle.tag_bytes.proofs.TagFile.{part-refused}
-use Rattle.tag.specs.Pairing.{answerOf, pairAnswerOf, pairAtAnswerOf}
+use Rattle.tag.specs.Pairing.{answerOf, pairAnswerOf, pairAtAnswerOf, shortPairAnswerOf, shortPairAtAnswerOf}
 use Rattle.numbering.specs.declared.answers.BuildAnswer.the-variants as BuildAnswer
 use Rattle.reaching.specs.declared.ReachAnswer.the-variants as ReachAnswer
 use Rattle.minutes.specs.declared.answers.TableAnswer.the-variants as TableAnswer
 use Rattle.numbering.specs.Numbering.{numbersAnswerOf, afterBuild}
 use Rattle.tree.specs.Build.{buildAnswerOf, tagsAnswerOf, afterTags}
 use Rattle.minutes.specs.SingleTable.{tableAnswerOf, afterTable}
+use Rattle.minutes.specs.EvenTable.{evenTableAnswerOf}
+use Rattle.short_tags.specs.ShortTags.{shortTagsAnswerOf, afterShortTags}
 use Rattle.reaching.specs.Reach.{reachAnswerOf}
 use Rattle.path.specs.declared.answers.ChainAnswer.the-variants as ChainAnswer
 use Rattle.path.specs.declared.answers.NeighboursAnswer.the-variants as NeighboursAnswer
@@ -72,7 +75,8 @@ same-found false r e = let z : _≡_ {A = ℕ} 0 1 = cc in omega arith
 pub demand-1 : Demand1
 unfolding validateAnswerOf numbersAnswerOf buildAnswerOf tagsAnswerOf tableAnswerOf reachAnswerOf chainAnswerOf neighboursAnswerOf sameAnswerOf
     readAnswerOf writeAnswerOf lookupAnswerOf pairAnswerOf pairAtAnswerOf afterBuild afterTags afterTable afterChain afterNeighbours
-    afterWrite
+    afterWrite shortTagsAnswerOf evenTableAnswerOf shortReadAnswerOf shortWriteAnswerOf shortPairAnswerOf shortPairAtAnswerOf afterShortTags
+    afterShortWrite
 demand-1 =
     record {
       validating = λ file. refuses Validation.Refused _ (λ r s e. cc) (λ r e. let z : _≡_ {A = ℕ} 0 1 = cc in omega arith) _;
@@ -90,11 +94,21 @@ demand-1 =
       pairing = λ first second. refuses PairAnswer.Refused _ (λ r s e. cc) (outcome-answered (outcome (numbers (tagOf first)) (numbers (tagOf second)))) _;
       pairing-at = λ tags first second. refuses PairAnswer.Refused _ (λ r s e. cc)
           (outcome-answered (outcome (numbers (tagOf (tagPart tags first))) (numbers (tagOf (tagPart tags second))))) _;
+      short-tagging = λ file room. refuses BuildAnswer.Refused _ (λ r s e. cc) (λ r e. let z : _≡_ {A = ℕ} 0 1 = cc in omega arith) _;
+      even-tabling = λ file room. refuses TableAnswer.Refused _ (λ r s e. cc) (λ r e. let z : _≡_ {A = ℕ} 0 1 = cc in omega arith) _;
+      short-reading = λ bytes. refuses ShortRead.Refused _ (λ r s e. cc) (λ r e. let z : _≡_ {A = ℕ} 0 1 = cc in omega arith) _;
+      short-writing = λ n out. refuses WriteAnswer.Refused _ (λ r s e. cc) (λ r e. let z : _≡_ {A = ℕ} 0 1 = cc in omega arith) _;
+      short-pairing = λ first second. refuses PairAnswer.Refused _ (λ r s e. cc)
+          (outcome-answered (shortOutcome (shortNumbers (shortTagOf first)) (shortNumbers (shortTagOf second)))) _;
+      short-pairing-at = λ tags first second. refuses PairAnswer.Refused _ (λ r s e. cc) (outcome-answered (shortOutcome
+          (shortNumbers (shortTagOf (partOf shortLength tags first))) (shortNumbers (shortTagOf (partOf shortLength tags second))))) _;
       build-untouched = λ r f before. refl;
       tags-untouched = λ r f before. refl;
+      short-tags-untouched = λ r f before. refl;
       table-untouched = λ r f before. refl;
       chain-untouched = λ r chain before. refl;
       neighbours-untouched = λ r neighbours before. refl;
       write-untouched = λ r n before. refl;
+      short-write-untouched = λ r n before. refl;
       lookup-empty = λ tags at r e. part-refused tags at r e;
     }

@@ -1,5 +1,5 @@
--- Demand 1: a plan file, position, table or tag that breaks a rule of paper 01 is refused with the number, input and position given
--- there, and everything lent stays untouched; nothing else is refused; every public call takes every input and returns. (That it does
+-- Demand 1: a plan file, position, table or tag that breaks a rule of paper 01 or of a request in force is refused with the number, input and
+-- position given there, and everything lent stays untouched; nothing else is refused; every public call takes every input and returns. (That it does
 -- is what its proof says: no public call has a `requires`, and a proved function ends.)
 -- Vocabulary: FirstNo, Refuses, Demand1.
 use Prim.Native.Nat.{ℕ}
@@ -10,15 +10,21 @@ use Rattle.plan.specs.Validation.{planQuestions, validateAnswerOf}
 use Rattle.plan.specs.declared.questions.Validation.the-variants as Validation
 use Rattle.tag_bytes.specs.{Reading.readQuestions, Reading.readAnswerOf, Writing.writeQuestions, Writing.writeAnswerOf, Writing.afterWrite}
 use Rattle.tag_bytes.specs.TagFile.{lookupQuestions, lookupAnswerOf, lookupPart}
+use Rattle.tag_bytes.specs.{Reading.shortReadQuestions, Reading.shortReadAnswerOf}
+use Rattle.tag_bytes.specs.{Writing.shortWriteQuestions, Writing.shortWriteAnswerOf, Writing.afterShortWrite}
 use Rattle.tag_bytes.specs.declared.reader.TagRead.the-variants as TagRead
+use Rattle.tag_bytes.specs.declared.reader.ShortRead.the-variants as ShortRead
 use Rattle.tag_bytes.specs.declared.writer.WriteAnswer.the-variants as WriteAnswer
 use Rattle.tag_bytes.specs.declared.tag_file.LookupAnswer.the-variants as LookupAnswer
 use Rattle.tag.specs.Pairing.{pairQuestions, pairAnswerOf, pairAtQuestions, pairAtAnswerOf}
+use Rattle.tag.specs.Pairing.{shortPairQuestions, shortPairAnswerOf, shortPairAtQuestions, shortPairAtAnswerOf}
 use Rattle.tag.specs.declared.pairs.PairAnswer.the-variants as PairAnswer
 use Rattle.minutes.specs.SingleTable.{tableQuestions, tableAnswerOf, afterTable}
+use Rattle.minutes.specs.EvenTable.{evenTableQuestions, evenTableAnswerOf}
 use Rattle.minutes.specs.declared.answers.TableAnswer.the-variants as TableAnswer
 use Rattle.numbering.specs.Numbering.{numbersAnswerOf, afterBuild}
 use Rattle.tree.specs.Build.{buildQuestions, buildAnswerOf, tagsQuestions, tagsAnswerOf, afterTags}
+use Rattle.short_tags.specs.ShortTags.{shortTagsQuestions, shortTagsAnswerOf, afterShortTags}
 use Rattle.numbering.specs.declared.answers.BuildAnswer.the-variants as BuildAnswer
 use Rattle.reaching.specs.Reach.{reachQuestions, reachAnswerOf}
 use Rattle.reaching.specs.declared.ReachAnswer.the-variants as ReachAnswer
@@ -58,12 +64,26 @@ pub record Demand1 : Type 0 where
   pub looking-up : (tags : List ℕ) (at : ℕ) → Refuses (lookupQuestions tags at) LookupAnswer.Refused (lookupAnswerOf tags at)
   pub pairing : (first second : List ℕ) → Refuses (pairQuestions first second) PairAnswer.Refused (pairAnswerOf first second)
   pub pairing-at : (tags : List ℕ) (u v : ℕ) → Refuses (pairAtQuestions tags u v) PairAnswer.Refused (pairAtAnswerOf tags u v)
+  -- On short tags (paper 02, Q-1), and the parents of an even plan:
+  pub short-tagging :
+      (file : List ℕ) (room : ℕ) → Refuses (shortTagsQuestions file room) BuildAnswer.Refused (shortTagsAnswerOf file room)
+  pub even-tabling :
+      (file : List ℕ) (room : ℕ) → Refuses (evenTableQuestions file room) TableAnswer.Refused (evenTableAnswerOf file room)
+  pub short-reading : (bytes : List ℕ) → Refuses (shortReadQuestions bytes) ShortRead.Refused (shortReadAnswerOf bytes)
+  pub short-writing :
+      (n : Numbers) (out : List ℕ) → Refuses (shortWriteQuestions n out) WriteAnswer.Refused (shortWriteAnswerOf n out)
+  pub short-pairing :
+      (first second : List ℕ) → Refuses (shortPairQuestions first second) PairAnswer.Refused (shortPairAnswerOf first second)
+  pub short-pairing-at :
+      (tags : List ℕ) (u v : ℕ) → Refuses (shortPairAtQuestions tags u v) PairAnswer.Refused (shortPairAtAnswerOf tags u v)
   -- A refusal leaves every lent table as it was.
   pub build-untouched : (r : Refusal) (f : ℕ → ℕ) (before : List ℕ) → afterBuild (BuildAnswer.Refused r) f before ≡ before
   pub tags-untouched : (r : Refusal) (f : ℕ → Numbers) (before : List ℕ) → afterTags (BuildAnswer.Refused r) f before ≡ before
+  pub short-tags-untouched : (r : Refusal) (f : ℕ → Numbers) (before : List ℕ) → afterShortTags (BuildAnswer.Refused r) f before ≡ before
   pub table-untouched : (r : Refusal) (f : ℕ → ℕ) (before : List ℕ) → afterTable (TableAnswer.Refused r) f before ≡ before
   pub chain-untouched : (r : Refusal) (l before : List ℕ) → afterChain (ChainAnswer.Refused r) l before ≡ before
   pub neighbours-untouched : (r : Refusal) (l before : List ℕ) → afterNeighbours (NeighboursAnswer.Refused r) l before ≡ before
   pub write-untouched : (r : Refusal) (n : Numbers) (before : List ℕ) → afterWrite (WriteAnswer.Refused r) n before ≡ before
+  pub short-write-untouched : (r : Refusal) (n : Numbers) (before : List ℕ) → afterShortWrite (WriteAnswer.Refused r) n before ≡ before
   -- "A refused lookup hands back an empty part".
   pub lookup-empty : (tags : List ℕ) (at : ℕ) (r : Refusal) → lookupAnswerOf tags at ≡ LookupAnswer.Refused r → lookupPart tags at ≡ []

@@ -1,8 +1,8 @@
 -- Even plans: no end falls from one window to the next, and so no last does, which is all that the theory of short tags asks. And
 -- the pass that asks question 13, before the window at a position.
--- Vocabulary: even-ends, even-lasts; Rising, rising-*.
+-- Vocabulary: even-ends, ends-even, even-lasts; Rising, rising-*.
 -- Assumes nothing.
-use Prim.Native.Nat.{ℕ, suc, _+_, _≤_, _<_}
+use Prim.Native.Nat.{ℕ, zero, suc, _+_, _≤_, _<_}
 use mathlib.Core.{Bool.true, Path._≡_, Path.refl, Path.sym, Path.ap, Path._∙_, Logic.⊎-elim, List.List, List.[], List._∷_, List.List·Memᴰ·head}
 use native.Mathlib.{Omega.arith, Numerals.add-one}
 use borrow.Author.Tests.{leb-true, ltb-true, lt-ltb, le-leb, lt-leb}
@@ -10,8 +10,8 @@ use Rattle.sequences.proofs.Tests.{lt-or-ge}
 use Rattle.interval_graph.specs.Tree.{last, LastsRise}
 use Rattle.interval_graph.proofs.Last.{last-cases, last-ge, overlap-last}
 use Rattle.refusals.specs.declared.Asked.the-variants.{Passed, Refused}
-use Rattle.refusals.specs.Question.{Question, refusalBy, refusalAbout, question, each, firstNo, askedOf}
-use Rattle.refusals.proofs.Question.{Asking, asking-start, asking-turn, asking-refused, asking-end, all-member, all-each}
+use Rattle.refusals.specs.Question.{Question, refusalBy, refusalAbout, question, firstNo, allYes, askedOf}
+use Rattle.refusals.proofs.Question.{Asking, asking-start, asking-turn, asking-refused, asking-end, all-member, all-each, each-all}
 use Rattle.plan.specs.declared.windows.Window.{Window}
 use Rattle.plan.specs.File.{windowCount, windowAt, endOf}
 use Rattle.plan.specs.Overlap.{overlaps, boundOf, overlapInOrder}
@@ -29,6 +29,15 @@ unfolding evenQuestions evenQuestion endBefore question
 even-ends file even v h =
     leb-true _ _ (all-member (endsAsked file (suc v)) (all-each (endsAsked file) 0 (windowCount file) even (suc v) (omega arith) (omega arith))
     _ (List·Memᴰ·head refl))
+
+-- And a plan of which that holds is even.
+pub ends-even : (file : List ℕ) → ((v : ℕ) → suc v < windowCount file → endOf (windowAt file v) ≤ endOf (windowAt file (suc v))) → EvenPlan file
+unfolding evenQuestions evenQuestion endBefore question allYes
+ends-even file rise = each-all (endsAsked file) 0 (windowCount file) asked
+  where
+    asked : (v : ℕ) → 0 ≤ v → v < 0 + windowCount file → allYes (endsAsked file v) ≡ true
+    asked zero l h = rw (le-leb 0 (endOf (windowAt file 0)) (omega arith))
+    asked (suc v) l h = rw (le-leb (endOf (windowAt file v)) (endOf (windowAt file (suc v))) (rise v (omega arith)))
 
 -- So no last falls: what begins before the bound of a window begins before that of the next.
 pub even-lasts : (file : List ℕ) → AcceptedPlan file → EvenPlan file → LastsRise (windowCount file) (overlaps file)

@@ -11,6 +11,9 @@ use Rattle.plan.specs.declared.windows.Window.{Window}
 use Rattle.plan.specs.declared.questions.Validation.the-variants.{Accepted, Refused}
 use Rattle.plan.specs.File.{planNumber, windowCount, windowOf, windowAt, endOf, headerBytes, windowBytes, fileOf}
 use Rattle.plan.specs.Overlap.{covers, sharedMinutes, overlaps}
+use Rattle.refusals.specs.declared.Asked.the-variants as Asked
+use Rattle.refusals.specs.Question.{askedOf}
+use Rattle.plan.specs.Even.{endBefore, evenQuestion, evenQuestions}
 use Rattle.plan.specs.Validation.{offsetBefore, windowQuestions, fileQuestions, planQuestions, validateAnswerOf}
 
 abbrev window : ℕ → ℕ → Window
@@ -42,3 +45,11 @@ pub refusals : validateAnswerOf (0 ∷ 0 ∷ 0 ∷ []) ∷ validateAnswerOf (0 �
     ∷ Refused (refusalBy 3) ∷ Refused (refusalAbout 1 (refusalBy 4)) ∷ Refused (refusalBy 5) ∷ Refused (refusalAbout 1 (refusalBy 6)) ∷ []
 unfolding meaning
 refusals = refl
+
+-- Question 13: window 1 of plan 12 ends before window 0 and is the first that does; equal ends pass; and where two ends fall the
+-- first counts, at the later window's position.
+pub evenness : askedOf (evenQuestions file) ∷ askedOf (evenQuestions (fileOf 0 (window 0 5 ∷ window 1 4 ∷ window 2 4 ∷ [])))
+    ∷ askedOf (evenQuestions (fileOf 0 (window 0 5 ∷ window 1 5 ∷ window 2 3 ∷ window 3 1 ∷ []))) ∷ []
+    ≡ Asked.Refused (refusalAbout 1 (refusalBy 13)) ∷ Asked.Passed ∷ Asked.Refused (refusalAbout 2 (refusalBy 13)) ∷ []
+unfolding meaning askedOf endBefore evenQuestion evenQuestions
+evenness = refl

@@ -7,7 +7,7 @@ use mathlib.Core.{Bool.true, Bool.false, Path._≡_, Path.refl, Path.sym, Path.a
 use mathlib.Core.{List.List·Memᴰ·head, List.List·Memᴰ·tail}
 use native.Mathlib.Omega.{arith}
 use lib.ListN.{length}
-use borrow.Author.Tests.{eq-eqb, ne-eqb, eqb-true, ltb-true}
+use borrow.Author.Tests.{eq-eqb, ne-eqb, eqb-true, ltb-true, lt-ltb}
 use Rattle.sequences.proofs.Tests.{eqb-symmetric, truth}
 use Rattle.interval_graph.specs.Numbers.{Numbers, Outcome, apart, no-chain, equal, comesFirst, outcomeBy, between, outcome, short, shortBetween}
 use Rattle.interval_graph.proofs.Outcome.{equal-refl, equal-symmetric, outcome-equal, outcome-components}
@@ -357,3 +357,15 @@ module _ (tags : List ℕ) (first second : ℕ) where
         shortPairAnswerOf (partOf shortLength tags first) (partOf shortLength tags second) ≡ shortPairAtAnswerOf tags first second
     unfolding shortPairAnswerOf shortPairAtAnswerOf shortPairAtQuestions
     short-at-passed p = asked-passed (shortPlaceQuestions tags first second) _ Refused _ answer e p
+
+  -- In a file of n short tags that is the pair call on the parts at two positions below n.
+  pub short-at-found : (n : ℕ) → length tags ≡ shortLength * n → first < n → second < n →
+      shortPairAtAnswerOf tags first second ≡ shortPairAnswerOf (partOf shortLength tags first) (partOf shortLength tags second)
+  unfolding shortPlaceQuestions positionQuestions positionQuestion askedOf firstNo question from
+  short-at-found n long hu hv =
+      sym (short-at-passed asked.Passed
+      (rw (
+        eq-eqb (length tags % shortLength) 0 (omega arith),
+        lt-ltb first (length tags / shortLength) (omega arith),
+        lt-ltb second (length tags / shortLength) (omega arith),
+      )) refl)
