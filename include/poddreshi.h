@@ -1,11 +1,11 @@
-/* Poddreshi: service windows, their distance tree and ten-byte tags. The C interface (C99).
+/* Poddreshi: service windows, their distance tree and tags of ten bytes, or of eight for even plans. The C interface (C99).
  *
  * Link target/staticlib/libpoddreshi.a, which `rt staticlib poddreshi` writes. Beside it is needed only the C library's
- * memset. It keeps no state, allocates nothing and may be called from any thread. poddreshi_tags uses at most 38 kB of stack, the calls
- * on two tags and on a tag file some bytes, and all others at most 17 kB.
+ * memset. It keeps no state, allocates nothing and may be called from any thread. poddreshi_tags and poddreshi_short_tags use at most
+ * 38 kB of stack, the calls that take no plan file some bytes, and all others at most 17 kB.
  *
  * THE ANSWER of every call is one number of 64 bits: four fields of 16 bits, the lowest first. The first field is the kind.
- * A refusal has kind PODDRESHI_REFUSED in every call, and then the question's number (1 to 12), the input at fault (0 the
+ * A refusal has kind PODDRESHI_REFUSED in every call, and then the question's number (1 to 13), the input at fault (0 the
  * first, 1 the second) and the position of the window being read, or 0. What the other kinds hold is said at each call;
  * fields that are not named are 0. The functions at the end take an answer apart.
  *
@@ -17,13 +17,19 @@
  *
  * A REFUSAL ALTERS NOTHING that is lent. Where a call writes, what lies past the written entries stays.
  *
- * THE QUESTIONS, in the order in which they are asked; a call asks those named with it.
+ * SHORT TAGS are for even plans: those in which no window ends before the one ahead of it in the file (equal ends pass). Two short
+ * tags of such a plan give the least number of handovers, as its long ones do; of another plan they may not, and none are written.
+ * No byte tells a file of short tags from one of long ones: where its length is a multiple of 40, the caller must know which it is.
+ *
+ * THE QUESTIONS, in the order in which they are asked, down the left and then down the right; a call asks those named with it.
  *    1  Has the file at least 4 bytes?                    7  Is each position below the number of windows?
  *    2  Is n at most 2,048?                               8  Does each table hold what is to be written?
  *    3  Has the file exactly 4 + 8 n bytes?               9  Has the tag 10 bytes, the tag file a multiple of 10?
- *    4  Is the length at least 1?                        10  Is each field after the plan number at most 2,047?
- *    5  Is offset + length at most 10,000,000?           11  Have both tags one plan number?
- *    6  Is the offset at least that of the one before?   12  Do tags of equal component and rank agree in all fields?
+ *    4  Is the length at least 1?                            (A short tag 8, a file of them a multiple of 8.)
+ *    5  Is offset + length at most 10,000,000?           10  Is each field after the plan number at most 2,047?
+ *    6  Is the offset at least that of the one before?   11  Have both tags one plan number?
+ *   13  Does no window end before the one ahead of it?   12  Do tags of equal component and rank agree in all fields?
+ *       (Asked where short tags are wanted.)
  */
 #ifndef PODDRESHI_H
 #define PODDRESHI_H
@@ -56,6 +62,7 @@ enum {
 
 enum {
     PODDRESHI_TAG_LENGTH = 10,       /* bytes of a tag */
+    PODDRESHI_SHORT_TAG_LENGTH = 8,  /* bytes of a short tag */
     PODDRESHI_FIELD_LIMIT = 2047,    /* the greatest number in a tag's field after the plan number */
     PODDRESHI_WINDOWS_LIMIT = 2048,  /* the greatest number of windows of a plan */
     PODDRESHI_FILE_LIMIT = 16388     /* bytes of the longest plan file */
@@ -81,6 +88,11 @@ uint64_t poddreshi_build(const uint8_t *file, size_t file_length,
 /* The tag file of a plan alone. Questions 1 to 6 and 8: it has room for 10 n bytes.
  * BUILT, as build answers. The first 10 n bytes of tags are the tags in order of position. */
 uint64_t poddreshi_tags(const uint8_t *file, size_t file_length, uint8_t *tags, size_t tags_length);
+
+/* The short tag file of an even plan. Questions 1 to 6; 13, at the first window that ends before the one ahead of it; and 8: it has
+ * room for 8 n bytes.
+ * BUILT, as build answers. The first 8 n bytes of tags are the short tags in order of position. */
+uint64_t poddreshi_short_tags(const uint8_t *file, size_t file_length, uint8_t *tags, size_t tags_length);
 
 /* The reach of a position's component: the depth of its last window plus 1. Questions 1 to 6 and 7.
  * REACH: a number of handovers. No two windows of the component are more handovers apart. */
@@ -114,6 +126,15 @@ uint64_t poddreshi_pair(const uint8_t *first, size_t first_length, const uint8_t
  * HANDOVERS or NO_CHAIN, as a pair answers. */
 uint64_t poddreshi_pair_at(const uint8_t *tags, size_t tags_length, size_t first, size_t second);
 
+/* The answer from two short tags alone. Questions 9 and 10 for the first tag, then for the second, then 11 and 12.
+ * HANDOVERS or NO_CHAIN: for the short tags of an even plan what a pair answers for its long ones. */
+uint64_t poddreshi_short_pair(const uint8_t *first, size_t first_length, const uint8_t *second, size_t second_length);
+
+/* The answer from the short tags at two positions of a short tag file. Question 9, 7 for the first position and then the second (the
+ * number of windows is the number of tags), and then those of the short pair.
+ * HANDOVERS or NO_CHAIN, as a short pair answers. */
+uint64_t poddreshi_short_pair_at(const uint8_t *tags, size_t tags_length, size_t first, size_t second);
+
 /* Where in a tag file the tag at a position begins. Questions 9 and 7; the number of windows is the number of tags.
  * FOUND: *offset is set, and the tag is the ten bytes from tags + *offset on. */
 uint64_t poddreshi_lookup(const uint8_t *tags, size_t tags_length, size_t at, size_t *offset);
@@ -122,6 +143,10 @@ uint64_t poddreshi_lookup(const uint8_t *tags, size_t tags_length, size_t at, si
  * WRITTEN: the first ten bytes of out are the five numbers, two bytes each, the lowest first. */
 uint64_t poddreshi_write(uint16_t plan, uint16_t component, uint16_t depth, uint16_t rank, uint16_t last,
                          uint8_t *out, size_t out_length);
+
+/* Writes one short tag. Questions 8 and 10.
+ * WRITTEN: the first eight bytes of out are the four numbers, two bytes each, the lowest first. */
+uint64_t poddreshi_short_write(uint16_t plan, uint16_t component, uint16_t depth, uint16_t rank, uint8_t *out, size_t out_length);
 
 /* An answer taken apart. */
 static inline unsigned poddreshi_field(uint64_t answer, unsigned field) {

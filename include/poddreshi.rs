@@ -13,12 +13,16 @@ extern "C" {
         tags: *mut u8, tags_length: usize,
     ) -> u64;
     pub fn poddreshi_tags(file: *const u8, length: usize, tags: *mut u8, tags_length: usize) -> u64;
+    pub fn poddreshi_short_tags(file: *const u8, length: usize, tags: *mut u8, tags_length: usize) -> u64;
     pub fn poddreshi_reach(file: *const u8, length: usize, at: usize) -> u64;
     pub fn poddreshi_chain(file: *const u8, length: usize, first: usize, second: usize, out: *mut u16, out_length: usize) -> u64;
     pub fn poddreshi_neighbours(file: *const u8, length: usize, at: usize, out: *mut u16, out_length: usize) -> u64;
     pub fn poddreshi_same(first: *const u8, first_length: usize, second: *const u8, second_length: usize) -> u64;
     pub fn poddreshi_pair(first: *const u8, first_length: usize, second: *const u8, second_length: usize) -> u64;
     pub fn poddreshi_pair_at(tags: *const u8, length: usize, first: usize, second: usize) -> u64;
+    pub fn poddreshi_short_pair(first: *const u8, first_length: usize, second: *const u8, second_length: usize) -> u64;
+    pub fn poddreshi_short_pair_at(tags: *const u8, length: usize, first: usize, second: usize) -> u64;
     pub fn poddreshi_lookup(tags: *const u8, length: usize, at: usize, offset: *mut usize) -> u64;
     pub fn poddreshi_write(plan: u16, component: u16, depth: u16, rank: u16, last: u16, out: *mut u8, length: usize) -> u64;
+    pub fn poddreshi_short_write(plan: u16, component: u16, depth: u16, rank: u16, out: *mut u8, length: usize) -> u64;
 }
