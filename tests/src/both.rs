@@ -4,6 +4,7 @@ use crate::answers::Answer;
 use crate::calls::{self, Lent, Tables};
 use crate::compare::Comparison;
 use crate::expected::{self, Owed};
+use crate::forms::Form;
 use crate::oracle::Columns;
 use std::fmt::{Arguments, Debug};
 
@@ -82,10 +83,10 @@ impl Comparison {
         self.both(library, lent, expected::build(file, rooms, tag_room))
     }
 
-    pub fn tag_file(&mut self, file: &[u8], room: usize) -> Both<Lent<u8>, Vec<u8>> {
+    pub fn tag_file(&mut self, form: Form, file: &[u8], room: usize) -> Both<Lent<u8>, Vec<u8>> {
         let mut out = calls::bytes(room, &mut self.random);
-        let library = calls::tags(file, &mut out);
-        self.both(library, out, expected::tags(file, room))
+        let library = calls::tags(form, file, &mut out);
+        self.both(library, out, expected::tags(form, file, room))
     }
 
     pub fn reach(&mut self, file: &[u8], at: usize) -> Both<(), ()> {
@@ -108,12 +109,12 @@ impl Comparison {
         self.both(calls::same(first, second), (), expected::same(first, second))
     }
 
-    pub fn pair(&mut self, first: &[u8], second: &[u8]) -> Both<(), ()> {
-        self.both(calls::pair(first, second), (), expected::pair(first, second))
+    pub fn pair(&mut self, form: Form, first: &[u8], second: &[u8]) -> Both<(), ()> {
+        self.both(calls::pair(form, first, second), (), expected::pair(form, first, second))
     }
 
-    pub fn pair_at(&mut self, tags: &[u8], first: usize, second: usize) -> Both<(), ()> {
-        self.both(calls::pair_at(tags, first, second), (), expected::pair_at(tags, first, second))
+    pub fn pair_at(&mut self, form: Form, tags: &[u8], first: usize, second: usize) -> Both<(), ()> {
+        self.both(calls::pair_at(form, tags, first, second), (), expected::pair_at(form, tags, first, second))
     }
 
     pub fn lookup(&mut self, tags: &[u8], at: usize) -> Both<Offset, Option<usize>> {
@@ -123,7 +124,7 @@ impl Comparison {
         self.both(library, Offset { before, now }, expected::lookup(tags, at))
     }
 
-    pub fn write(&mut self, tag: [u16; 5], room: usize) -> Both<Lent<u8>, Vec<u8>> {
+    pub fn write(&mut self, tag: &[u16], room: usize) -> Both<Lent<u8>, Vec<u8>> {
         let mut out = calls::bytes(room, &mut self.random);
         let library = calls::write(tag, &mut out);
         self.both(library, out, expected::write(tag, room))

@@ -1,6 +1,7 @@
 //! The C interface, each call wrapped so that nothing lent can be written to unseen: every table stands inside a larger
 //! buffer of random content, of which all but the table's first entries must stay.
 use crate::answers::{Answer, Refusal};
+use crate::forms::Form;
 use crate::oracle::Columns;
 use crate::random::Random;
 use interface::*;
@@ -104,8 +105,12 @@ pub fn build(file: &[u8], lent: &mut Tables) -> Answer {
     })
 }
 
-pub fn tags(file: &[u8], out: &mut Lent<u8>) -> Answer {
-    unpack(unsafe { poddreshi_tags(file.as_ptr(), file.len(), out.pointer(), out.room) })
+pub fn tags(form: Form, file: &[u8], out: &mut Lent<u8>) -> Answer {
+    let call = match form {
+        Form::Long => poddreshi_tags,
+        Form::Short => poddreshi_short_tags,
+    };
+    unpack(unsafe { call(file.as_ptr(), file.len(), out.pointer(), out.room) })
 }
 
 pub fn reach(file: &[u8], at: usize) -> Answer {
@@ -124,19 +129,32 @@ pub fn same(first: &[u8], second: &[u8]) -> Answer {
     unpack(unsafe { poddreshi_same(first.as_ptr(), first.len(), second.as_ptr(), second.len()) })
 }
 
-pub fn pair(first: &[u8], second: &[u8]) -> Answer {
-    unpack(unsafe { poddreshi_pair(first.as_ptr(), first.len(), second.as_ptr(), second.len()) })
+pub fn pair(form: Form, first: &[u8], second: &[u8]) -> Answer {
+    let call = match form {
+        Form::Long => poddreshi_pair,
+        Form::Short => poddreshi_short_pair,
+    };
+    unpack(unsafe { call(first.as_ptr(), first.len(), second.as_ptr(), second.len()) })
 }
 
-pub fn pair_at(tags: &[u8], first: usize, second: usize) -> Answer {
-    unpack(unsafe { poddreshi_pair_at(tags.as_ptr(), tags.len(), first, second) })
+pub fn pair_at(form: Form, tags: &[u8], first: usize, second: usize) -> Answer {
+    let call = match form {
+        Form::Long => poddreshi_pair_at,
+        Form::Short => poddreshi_short_pair_at,
+    };
+    unpack(unsafe { call(tags.as_ptr(), tags.len(), first, second) })
 }
 
 pub fn lookup(tags: &[u8], at: usize, offset: &mut usize) -> Answer {
     unpack(unsafe { poddreshi_lookup(tags.as_ptr(), tags.len(), at, offset) })
 }
 
-pub fn write(tag: [u16; 5], out: &mut Lent<u8>) -> Answer {
-    let [plan, component, depth, rank, last] = tag;
-    unpack(unsafe { poddreshi_write(plan, component, depth, rank, last, out.pointer(), out.room) })
+/// A tag of five numbers, or a short one of four.
+pub fn write(tag: &[u16], out: &mut Lent<u8>) -> Answer {
+    let (to, room) = (out.pointer(), out.room);
+    unpack(match *tag {
+        [plan, component, depth, rank, last] => unsafe { poddreshi_write(plan, component, depth, rank, last, to, room) },
+        [plan, component, depth, rank] => unsafe { poddreshi_short_write(plan, component, depth, rank, to, room) },
+        _ => panic!("no tag has the numbers {tag:?}"),
+    })
 }

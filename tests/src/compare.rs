@@ -2,6 +2,7 @@
 //! its calls; `both` has single calls, each with a search of its own.
 use crate::answers::{refusal, Answer, Refusal};
 use crate::calls::{self, Tables};
+use crate::forms::{Form, FORMS};
 use crate::oracle::{self, Columns, Plan, Tree};
 use crate::random::Random;
 
@@ -21,19 +22,19 @@ pub struct Comparison {
 
 fn position_sample(n: usize, depth: Depth, random: &mut Random) -> Vec<usize> {
     match depth {
-        Depth::Whole => (0..n).collect(),
-        Depth::Sampled => {
+        Depth::Sampled if n > 0 => {
             let mut some: Vec<usize> = (0..8).map(|_| random.below(n as u64) as usize).collect();
             some.extend([0, n - 1]);
             some
         }
+        _ => (0..n).collect(),
     }
 }
 
-/// Positions that n windows do not have: the next one, one further on, and one that would be a window in 16, 32 or 63 bits.
-/// (Ten times 2^63 and a position is ten times that position in 64 bits.)
+/// Positions that n windows do not have: the next one, one further on, and one that would be a window in 16, 32, 61 or 63 bits.
+/// (In 64 bits, ten times 2^63 and a position is ten times that position, and so it is with eight and 2^61.)
 fn positions_past(n: usize, random: &mut Random) -> [usize; 3] {
-    let high = random.pick(&[1 << 16, 1 << 32, 1 << 63]);
+    let high = random.pick(&[1 << 16, 1 << 32, 1 << 61, 1 << 63]);
     [n, random.pick(&[n + 1, n.max(2048), usize::MAX]), high + random.below(n.max(1) as u64) as usize]
 }
 
@@ -67,7 +68,9 @@ impl Comparison {
         let rooms = [0; 5].map(|_| self.some_room());
         let mut lent = Tables::new(rooms, 10 * rooms[0], &mut self.random);
         assert_eq!(calls::build(file, &mut lent), refused, "build");
-        assert_eq!(calls::tags(file, &mut lent.tags), refused, "tags");
+        for form in FORMS {
+            assert_eq!(calls::tags(form, file, &mut lent.tags), refused, "{form:?} tags");
+        }
         lent.holds("refused build and tags", &Columns::default());
         let at = self.random.pick(&[0, 1, 2047, usize::MAX]);
         assert_eq!(calls::reach(file, at), refused, "reach");
@@ -81,47 +84,42 @@ impl Comparison {
         let second = Answer::Refused(Refusal { input: 1, ..no });
         assert_eq!(calls::same(&good, file), second, "same, the second file");
         assert_eq!(calls::same(file, &good), refused, "same, the first file");
-        self.calls += 10;
+        self.calls += 11;
     }
 
     fn accepted_file(&mut self, file: &[u8], plan: &Plan, depth: Depth) {
         let tree = Tree::of(plan);
         let (n, windows) = (tree.n, tree.n as u16);
         assert_eq!(calls::validate(file), Answer::Accepted { plan: plan.number, windows }, "validate");
-        let tags = self.tables(file, &tree);
-        self.short_tables(file, n);
-        self.lookups(&tags);
-        let distances: Vec<Vec<Option<u16>>> = (0..n).map(|v| tree.distances(v)).collect();
-        self.pairs(&tree, &tags, &distances);
+        self.tables(file, &tree);
         if n > 0 {
-            let some = position_sample(n, depth, &mut self.random);
-            self.from_plan(file, &tree, &some, &distances);
-            self.from_tags(&tags, &some, &distances);
+            self.tables_too_short(file, n);
         }
-        self.named_positions(file, &tags, n);
+        self.lookups(&tree.tag_file(Form::Long));
+        let distances: Vec<Vec<Option<u16>>> = (0..n).map(|v| tree.distances(v)).collect();
+        let some = position_sample(n, depth, &mut self.random);
+        self.from_plan(file, &tree, &some, &distances);
+        self.named_positions(file, n);
+        self.from_tags(Form::Long, file, &tree, &some, &distances);
+        match oracle::is_even(plan) {
+            Ok(()) => self.from_tags(Form::Short, file, &tree, &some, &distances),
+            Err(no) => self.no_short_tags(file, n, no),
+        }
         assert_eq!(calls::same(file, file), Answer::Same, "same as itself");
         self.calls += 2;
     }
 
-    /// Build into tables that may be longer than asked, all of them looked at, and the tag file alone.
-    fn tables(&mut self, file: &[u8], tree: &Tree) -> Vec<u8> {
+    /// Build into tables that may be longer than asked, all of them looked at.
+    fn tables(&mut self, file: &[u8], tree: &Tree) {
         let rooms = [0; 5].map(|_| tree.n + self.some_room());
         let mut lent = Tables::new(rooms, 10 * tree.n + self.some_room(), &mut self.random);
         assert_eq!(calls::build(file, &mut lent), tree.built(), "build");
-        let columns = tree.columns();
-        lent.holds("build", &columns);
-        let mut alone = calls::bytes(10 * tree.n + self.some_room(), &mut self.random);
-        assert_eq!(calls::tags(file, &mut alone), tree.built(), "tags");
-        alone.holds("tags", &columns.tags);
-        self.calls += 2;
-        columns.tags
+        lent.holds("build", &tree.columns());
+        self.calls += 1;
     }
 
     /// One of the tables, or the tag file, too short, half of the times by one.
-    fn short_tables(&mut self, file: &[u8], n: usize) {
-        if n == 0 {
-            return;
-        }
+    fn tables_too_short(&mut self, file: &[u8], n: usize) {
         for short in 0..6 {
             let mut rooms = [n; 5];
             let mut tags = 10 * n;
@@ -133,9 +131,38 @@ impl Comparison {
             lent.holds("refused build", &Columns::default());
             self.calls += 1;
         }
-        let mut short = calls::bytes(10 * n - 1, &mut self.random);
-        assert_eq!(calls::tags(file, &mut short), Answer::Refused(refusal(8, 0, 0)), "tags, one byte short");
-        short.holds("refused tags", &[]);
+    }
+
+    /// The tag file alone, in a form that the plan has, and all that is answered from it.
+    fn from_tags(&mut self, form: Form, file: &[u8], tree: &Tree, some: &[usize], distances: &[Vec<Option<u16>>]) {
+        let tags = tree.tag_file(form);
+        self.tags_alone(form, file, tree, &tags);
+        self.pairs(form, &tags, distances);
+        self.pairs_at(form, &tags, some, distances);
+        self.positions_past_tags(form, &tags);
+    }
+
+    /// The tag file alone, into a table that may be longer than asked, and into one that is a byte too short.
+    fn tags_alone(&mut self, form: Form, file: &[u8], tree: &Tree, tags: &[u8]) {
+        let mut out = calls::bytes(tags.len() + self.some_room(), &mut self.random);
+        assert_eq!(calls::tags(form, file, &mut out), tree.built(), "{form:?} tags");
+        out.holds("tags", tags);
+        self.calls += 1;
+        if tree.n > 0 {
+            let mut out = calls::bytes(tags.len() - 1, &mut self.random);
+            let full = Answer::Refused(refusal(8, 0, 0));
+            assert_eq!(calls::tags(form, file, &mut out), full, "{form:?} tags, one byte too short");
+            out.holds("refused tags", &[]);
+            self.calls += 1;
+        }
+    }
+
+    /// Of a plan that is not even there are no short tags, whatever the room is.
+    fn no_short_tags(&mut self, file: &[u8], n: usize, no: Refusal) {
+        let room = self.random.pick(&[0, 8 * n - 1, 8 * n, 8 * n + 3]);
+        let mut out = calls::bytes(room, &mut self.random);
+        assert_eq!(calls::tags(Form::Short, file, &mut out), Answer::Refused(no), "short tags of a plan that is not even");
+        out.holds("refused short tags", &[]);
         self.calls += 1;
     }
 
@@ -149,25 +176,25 @@ impl Comparison {
     }
 
     /// Every two tags of the plan, in both orders, against the search.
-    fn pairs(&mut self, tree: &Tree, tags: &[u8], distances: &[Vec<Option<u16>>]) {
+    fn pairs(&mut self, form: Form, tags: &[u8], distances: &[Vec<Option<u16>>]) {
         let before = tags.to_vec();
-        for u in 0..tree.n {
-            for v in 0..tree.n {
-                let answer = calls::pair(&tags[10 * u..10 * u + 10], &tags[10 * v..10 * v + 10]);
+        let each = || tags.chunks(form.bytes()).enumerate();
+        for (u, first) in each() {
+            for (v, second) in each() {
                 let expected = distances[u][v].map_or(Answer::NoChain, Answer::Handovers);
-                assert_eq!(answer, expected, "pair of {u} and {v}");
+                assert_eq!(calls::pair(form, first, second), expected, "{form:?} pair of {u} and {v}");
             }
         }
         assert_eq!(tags, before, "tags that were only to be read");
-        self.calls += (tree.n * tree.n) as u64;
+        self.calls += (distances.len() * distances.len()) as u64;
     }
 
     /// Two positions of the tag file, in both orders, against the search.
-    fn from_tags(&mut self, tags: &[u8], some: &[usize], distances: &[Vec<Option<u16>>]) {
+    fn pairs_at(&mut self, form: Form, tags: &[u8], some: &[usize], distances: &[Vec<Option<u16>>]) {
         for &u in some {
             for &v in some {
                 let expected = distances[u][v].map_or(Answer::NoChain, Answer::Handovers);
-                assert_eq!(calls::pair_at(tags, u, v), expected, "pair at {u} and {v}");
+                assert_eq!(calls::pair_at(form, tags, u, v), expected, "{form:?} pair at {u} and {v}");
             }
         }
         self.calls += (some.len() * some.len()) as u64;
@@ -231,32 +258,48 @@ impl Comparison {
         }
     }
 
-    /// Positions that the plan and its tag file do not have, as the first and as the second.
-    fn named_positions(&mut self, file: &[u8], tags: &[u8], n: usize) {
+    /// Positions that the plan does not have, as the first and as the second.
+    fn named_positions(&mut self, file: &[u8], n: usize) {
+        let [first, second] = [0, 1].map(|input| Answer::Refused(refusal(7, input, 0)));
         for past in positions_past(n, &mut self.random) {
             let mut out = calls::words(self.random.below(3) as usize, &mut self.random);
-            let (first, second) = (Answer::Refused(refusal(7, 0, 0)), Answer::Refused(refusal(7, 1, 0)));
             assert_eq!(calls::reach(file, past), first, "reach of {past}");
             assert_eq!(calls::neighbours(file, past, &mut out), first, "neighbours of {past}");
             assert_eq!(calls::chain(file, past, past, &mut out), first, "chain of {past} twice");
             assert_eq!(calls::chain(file, past, 0, &mut out), first, "chain of {past} and 0");
-            assert_eq!(calls::pair_at(tags, past, past), first, "pair at {past} twice");
-            assert_eq!(calls::pair_at(tags, past, 0), first, "pair at {past} and 0");
             if n > 0 {
                 assert_eq!(calls::chain(file, n - 1, past, &mut out), second, "chain of the last and {past}");
-                assert_eq!(calls::pair_at(tags, n - 1, past), second, "pair at the last and {past}");
             }
             out.holds("refused position", &[]);
-            self.calls += 8;
+            self.calls += 5;
         }
     }
 
-    /// Two byte strings as tags, in both orders, and as a tag file.
-    pub fn tags(&mut self, first: &[u8], second: &[u8]) {
+    /// Positions that the tag file does not have, as the first and as the second.
+    fn positions_past_tags(&mut self, form: Form, tags: &[u8]) {
+        let n = tags.len() / form.bytes();
+        let [first, second] = [0, 1].map(|input| Answer::Refused(refusal(7, input, 0)));
+        for past in positions_past(n, &mut self.random) {
+            assert_eq!(calls::pair_at(form, tags, past, past), first, "{form:?} pair at {past} twice");
+            assert_eq!(calls::pair_at(form, tags, past, 0), first, "{form:?} pair at {past} and 0");
+            if n > 0 {
+                assert_eq!(calls::pair_at(form, tags, n - 1, past), second, "{form:?} pair at the last and {past}");
+            }
+            self.calls += 3;
+        }
+    }
+
+    /// Two byte strings as tags, in both orders, which is no difference once both can be read, and as a tag file.
+    pub fn tags(&mut self, form: Form, first: &[u8], second: &[u8]) {
         let file = [first, second].concat();
-        for (a, b, at) in [(first, second, (0, 1)), (second, first, (1, 0))] {
-            self.pair(a, b).agree(format_args!("pair of {a:?} and {b:?}"));
-            self.pair_at(&file, at.0, at.1).agree(format_args!("pair at {at:?} of {file:?}"));
+        let answers = [(first, second, (0, 1)), (second, first, (1, 0))].map(|(a, b, at)| {
+            let both = self.pair(form, a, b);
+            both.agree(format_args!("{form:?} pair of {a:?} and {b:?}"));
+            self.pair_at(form, &file, at.0, at.1).agree(format_args!("{form:?} pair at {at:?} of {file:?}"));
+            both.oracle
+        });
+        if answers.iter().all(|answer| !matches!(answer, Answer::Refused(Refusal { number: 9 | 10, .. }))) {
+            assert_eq!(answers[0], answers[1], "{form:?} pair of {first:?} and {second:?}, and in the other order");
         }
     }
 
@@ -266,8 +309,8 @@ impl Comparison {
         let [a, b] = &trees;
         let answer = if a.same_as(b) { Answer::Same } else { Answer::Different };
         assert_eq!(calls::same(first, second), answer, "same");
-        let tags = |tree: &Tree| (0..tree.n).map(|v| tree.tag(v)[1..].to_vec()).collect::<Vec<_>>();
-        assert_eq!(tags(a) == tags(b), a.same_as(b), "equal tags and sameness");
+        let fields = |tree: &Tree| (0..tree.n).map(|v| tree.fields(Form::Long, v)).collect::<Vec<_>>();
+        assert_eq!(fields(a) == fields(b), a.same_as(b), "equal tags and sameness");
         self.calls += 1;
     }
 }

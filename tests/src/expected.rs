@@ -1,6 +1,7 @@
 //! What each call owes on every input: the questions that fit the call, in the paper's order, and then what the oracle finds.
 //! With an answer goes what is to stand at the front of each lent table; a refusal writes nothing.
 use crate::answers::{refusal, Answer, Refusal};
+use crate::forms::Form;
 use crate::oracle::{self, Columns, Tree};
 
 pub type Owed<W> = Result<(Answer, W), Refusal>;
@@ -21,8 +22,8 @@ fn has_room(room: usize, wanted: usize) -> Result<(), Refusal> {
 }
 
 /// Question 9 of a tag file; the number of its tags.
-fn tag_count(tags: &[u8]) -> Result<usize, Refusal> {
-    if tags.len() % 10 == 0 { Ok(tags.len() / 10) } else { Err(refusal(9, 0, 0)) }
+fn tag_count(form: Form, tags: &[u8]) -> Result<usize, Refusal> {
+    if tags.len() % form.bytes() == 0 { Ok(tags.len() / form.bytes()) } else { Err(refusal(9, 0, 0)) }
 }
 
 /// Question 10 of numbers that are to be written.
@@ -44,10 +45,14 @@ pub fn build(file: &[u8], rooms: [usize; 5], tag_room: usize) -> Owed<Columns> {
     Ok((tree.built(), tree.columns()))
 }
 
-pub fn tags(file: &[u8], room: usize) -> Owed<Vec<u8>> {
-    let tree = tree_of(file, 0)?;
-    has_room(room, 10 * tree.n)?;
-    Ok((tree.built(), tree.columns().tags))
+pub fn tags(form: Form, file: &[u8], room: usize) -> Owed<Vec<u8>> {
+    let plan = oracle::read_plan(file, 0)?;
+    if form == Form::Short {
+        oracle::is_even(&plan)?;
+    }
+    let tree = Tree::of(&plan);
+    has_room(room, form.bytes() * tree.n)?;
+    Ok((tree.built(), tree.tag_file(form)))
 }
 
 pub fn reach(file: &[u8], at: usize) -> Owed<()> {
@@ -81,25 +86,26 @@ pub fn same(first: &[u8], second: &[u8]) -> Owed<()> {
     Ok((if a.same_as(&b) { Answer::Same } else { Answer::Different }, ()))
 }
 
-pub fn pair(first: &[u8], second: &[u8]) -> Owed<()> {
-    Ok((oracle::pair(first, second)?, ()))
+pub fn pair(form: Form, first: &[u8], second: &[u8]) -> Owed<()> {
+    Ok((oracle::pair(form, first, second)?, ()))
 }
 
-pub fn pair_at(tags: &[u8], first: usize, second: usize) -> Owed<()> {
-    let n = tag_count(tags)?;
+pub fn pair_at(form: Form, tags: &[u8], first: usize, second: usize) -> Owed<()> {
+    let n = tag_count(form, tags)?;
     is_position(first, n, 0)?;
     is_position(second, n, 1)?;
-    pair(&tags[10 * first..][..10], &tags[10 * second..][..10])
+    let length = form.bytes();
+    pair(form, &tags[length * first..][..length], &tags[length * second..][..length])
 }
 
 /// What is written is where the tag begins.
 pub fn lookup(tags: &[u8], at: usize) -> Owed<Option<usize>> {
-    is_position(at, tag_count(tags)?, 0)?;
+    is_position(at, tag_count(Form::Long, tags)?, 0)?;
     Ok((Answer::Found, Some(10 * at)))
 }
 
-pub fn write(tag: [u16; 5], room: usize) -> Owed<Vec<u8>> {
-    has_room(room, 10)?;
+pub fn write(tag: &[u16], room: usize) -> Owed<Vec<u8>> {
+    has_room(room, 2 * tag.len())?;
     are_fields(&tag[1..])?;
     Ok((Answer::Written, oracle::tag_bytes(tag)))
 }

@@ -1,15 +1,16 @@
-//! The library through its C interface beside an implementation of different origin (`oracle`), on paper 01's cases by name,
+//! The library through its C interface beside an implementation of different origin (`oracle`), on the papers' cases by name,
 //! on every overlap pattern of few windows and on random plans, damaged files and damaged tags.
 //!
 //!   differential [--long] [--seed N] [--case N] [--listing PROGRAM]
 //!
 //! A run is decided by its seed. A failure names the seed and the case, and `--seed N --case N` runs that one again. The
-//! listing program, where it is given, is run on paper 01's cases at the end.
+//! listing program, where it is given, is run on the papers' cases at the end.
 mod answers;
 mod both;
 mod calls;
 mod compare;
 mod expected;
+mod forms;
 mod listing;
 mod oracle;
 mod paper;
@@ -17,9 +18,11 @@ mod random;
 mod refusals;
 mod shapes;
 
+use answers::{refusal, Answer};
 use compare::{Comparison, Depth};
+use forms::{Form, FORMS};
 use random::Random;
-use shapes::{file_of, patterns, windows, SHAPES};
+use shapes::{evened, file_of, nearly_even, patterns, windows, SHAPES};
 use std::sync::Mutex;
 use std::time::Instant;
 
@@ -60,12 +63,12 @@ impl Run {
     }
 }
 
-/// Paper 01's own cases, by name.
+/// The papers' own cases, by name.
 fn paper_cases(run: &mut Run) {
     for case in paper::cases() {
-        run.case(&format!("paper 01, {}", case.name), &mut |comparison| case.hold(comparison));
+        run.case(&format!("paper, {}", case.name), &mut |comparison| case.hold(comparison));
     }
-    run.report("paper 01, by name");
+    run.report("papers, by name");
 }
 
 /// The same through the listing program; among them are inputs longer than its buffer.
@@ -86,9 +89,13 @@ fn every_refusal(run: &mut Run) {
     run.case("two faulty files", &mut refusals::two_files);
     run.case("positions and rooms", &mut refusals::positions_and_rooms);
     run.case("rooms of build", &mut refusals::rooms_of_build);
-    run.case("two faulty tags", &mut refusals::two_tags);
-    run.case("tag files", &mut refusals::tag_files);
-    run.case("a tag to be written", &mut refusals::written_tags);
+    run.case("falling ends", &mut refusals::falling_ends);
+    for form in FORMS {
+        run.case("rooms of tags", &mut |comparison| refusals::rooms_of_tags(comparison, form));
+        run.case("two faulty tags", &mut |comparison| refusals::two_tags(comparison, form));
+        run.case("tag files", &mut |comparison| refusals::tag_files(comparison, form));
+        run.case("a tag to be written", &mut |comparison| refusals::written_tags(comparison, form));
+    }
     run.report("refusals");
 }
 
@@ -117,6 +124,26 @@ fn every_pattern(run: &mut Run) {
     run.report("patterns");
 }
 
+/// Every pattern that even plans have, its minutes doubled and each end in turn lowered by one: the pattern stays, and with it
+/// every last, but the plan is no longer even where the window ahead ended with the one that is lowered.
+fn every_lowered_end(run: &mut Run) {
+    let ends_rise = |windows: &&Vec<(u32, u32)>| evened(windows) == **windows;
+    for n in 2..=run.times(6, 8) as usize {
+        for pattern in patterns(n).iter().filter(ends_rise) {
+            run.case("a pattern with an end lowered", &mut |comparison| {
+                let apart: Vec<(u32, u32)> = pattern.iter().map(|w| (2 * w.0, 2 * w.1)).collect();
+                for at in 0..n {
+                    let mut lowered = apart.clone();
+                    lowered[at].1 -= 1;
+                    comparison.sameness(&file_of(1, &apart), &file_of(2, &lowered));
+                    comparison.file(&file_of(2, &lowered), Depth::Whole);
+                }
+            });
+        }
+    }
+    run.report("patterns with an end lowered");
+}
+
 /// Small random plans of each shape, all pairs, and each beside a plan that differs in one window.
 fn small_plans(run: &mut Run) {
     for _ in 0..run.times(2_500, 50_000) {
@@ -139,12 +166,34 @@ fn small_plans(run: &mut Run) {
     run.report("small plans");
 }
 
+/// Small even plans of each shape, all pairs, and the like with one end that is equal or falls.
+fn small_even_plans(run: &mut Run) {
+    for _ in 0..run.times(400, 10_000) {
+        for shape in SHAPES {
+            run.case(&format!("{shape:?}, small and even"), &mut |comparison| {
+                let n = comparison.random.below(33) as usize;
+                let plan = windows(shape, n, &mut comparison.random);
+                let number = comparison.random.next() as u16;
+                comparison.file(&file_of(number, &evened(&plan)), Depth::Whole);
+                let other = nearly_even(&plan, &mut comparison.random);
+                comparison.file(&file_of(number, &other), Depth::Whole);
+            });
+        }
+    }
+    run.report("small even plans");
+}
+
+/// How many windows a large plan has: in the first turn as many as a plan can have.
+fn many(turn: u64, random: &mut Random) -> usize {
+    if turn == 0 { 2048 } else { random.between(100, 700) as usize }
+}
+
 /// Larger plans, all pairs of tags; n = 2,048 among them.
 fn large_plans(run: &mut Run) {
     for turn in 0..run.times(4, 100) {
         for shape in SHAPES {
             run.case(&format!("{shape:?}, large"), &mut |comparison| {
-                let n = if turn == 0 { 2048 } else { comparison.random.between(100, 700) as usize };
+                let n = many(turn, &mut comparison.random);
                 let plan = windows(shape, n, &mut comparison.random);
                 let file = file_of(comparison.random.next() as u16, &plan);
                 comparison.file(&file, Depth::Sampled);
@@ -152,6 +201,23 @@ fn large_plans(run: &mut Run) {
         }
     }
     run.report("large plans");
+}
+
+/// Larger even plans, and the like with one end that is equal or falls.
+fn large_even_plans(run: &mut Run) {
+    for turn in 0..run.times(2, 50) {
+        for shape in SHAPES {
+            run.case(&format!("{shape:?}, large and even"), &mut |comparison| {
+                let n = many(turn, &mut comparison.random);
+                let plan = windows(shape, n, &mut comparison.random);
+                let number = comparison.random.next() as u16;
+                comparison.file(&file_of(number, &evened(&plan)), Depth::Sampled);
+                let other = file_of(number, &nearly_even(&plan, &mut comparison.random));
+                comparison.tag_file(Form::Short, &other, 8 * n).agree(format_args!("short tags"));
+            });
+        }
+    }
+    run.report("large even plans");
 }
 
 const NUMBERS: [u32; 14] =
@@ -203,6 +269,12 @@ fn edges_of_n(run: &mut Run) {
         last[2047] = (0, 0);
         comparison.file(&file_of(3, &last), Depth::Sampled);
     });
+    run.case("2,048 windows, of which the last end falls", &mut |comparison| {
+        let mut falling = vec![(0, 5); 2048];
+        falling[2047] = (0, 4);
+        let both = comparison.tag_file(Form::Short, &file_of(3, &falling), 8 * 2048);
+        both.are(format_args!("short tags"), Answer::Refused(refusal(13, 0, 2047)), &vec![]);
+    });
     run.case("2,048 windows, the same but for the last", &mut |comparison| {
         let apart: Vec<(u32, u32)> = (0..2048).map(|v| (v, 1)).collect();
         let mut joined = apart.clone();
@@ -221,24 +293,30 @@ fn field(random: &mut Random) -> u16 {
     }
 }
 
-/// Tags that no plan has, of every length about ten; tags written; tag files of every length.
+/// Two tags that no plan has, and one of them written. What is written is read in the next pair as it was given.
+fn two_of_any_tags(comparison: &mut Comparison, form: Form) {
+    let random = &mut comparison.random;
+    let mut tags = [(); 2].map(|_| (0..form.numbers()).map(|_| field(random)).collect::<Vec<u16>>());
+    if random.below(4) > 0 {
+        tags[1][0] = tags[0][0];
+    }
+    let room = random.between(5, 14) as usize;
+    let mut bytes = tags.each_ref().map(|tag| oracle::tag_bytes(tag));
+    if random.below(8) == 0 {
+        let length = random.below(22) as usize;
+        bytes[random.below(2) as usize].resize(length, 0);
+    }
+    comparison.write(&tags[0], room).agree(format_args!("write of {:?} into {room} bytes", tags[0]));
+    comparison.tags(form, &bytes[0], &bytes[1]);
+    comparison.tags(form, &bytes[0], &bytes[0]);
+}
+
+/// Tags that no plan has, of every length about the right one; tags written; tag files of every length.
 fn any_tags(run: &mut Run) {
     for _ in 0..run.times(1_000, 30_000) {
         run.case("tags", &mut |comparison| {
             for _ in 0..500 {
-                let mut tags = [(); 2].map(|_| [(); 5].map(|_| field(&mut comparison.random)));
-                if comparison.random.below(4) > 0 {
-                    tags[1][0] = tags[0][0];
-                }
-                let mut bytes = tags.map(oracle::tag_bytes);
-                if comparison.random.below(8) == 0 {
-                    let length = comparison.random.below(22) as usize;
-                    bytes[comparison.random.below(2) as usize].resize(length, 0);
-                }
-                comparison.tags(&bytes[0], &bytes[1]);
-                comparison.tags(&bytes[0], &bytes[0]);
-                let room = comparison.random.between(7, 14) as usize;
-                comparison.write(tags[0], room).agree(format_args!("write of {:?} into {room} bytes", tags[0]));
+                FORMS.into_iter().for_each(|form| two_of_any_tags(comparison, form));
             }
             let length = comparison.random.below(64) as usize;
             comparison.lookups(&vec![7; length]);
@@ -269,9 +347,12 @@ fn main() {
     paper_cases(&mut run);
     every_refusal(&mut run);
     every_pattern(&mut run);
+    every_lowered_end(&mut run);
     edges_of_n(&mut run);
     small_plans(&mut run);
+    small_even_plans(&mut run);
     large_plans(&mut run);
+    large_even_plans(&mut run);
     damaged_files(&mut run);
     any_tags(&mut run);
     listed_cases(&mut run);

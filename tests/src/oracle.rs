@@ -1,7 +1,8 @@
-//! What paper 01 says, by brute force: windows as sets of minutes, overlap as a minute that both sets have, least numbers
+//! What the papers say, by brute force: windows as sets of minutes, overlap as a minute that both sets have, least numbers
 //! of handovers by breadth-first search, post-order by recursion. Nothing here is taken from the library: where it has a
 //! formula, this has a search.
 use crate::answers::{refusal, Answer, Refusal};
+use crate::forms::Form;
 
 fn number(bytes: &[u8]) -> u64 {
     bytes.iter().rev().fold(0, |high, &byte| high * 256 + byte as u64)
@@ -37,6 +38,15 @@ pub fn read_plan(file: &[u8], input: u16) -> Result<Plan, Refusal> {
         }
     }
     Ok(Plan { number: number(&file[..2]) as u16, windows })
+}
+
+/// Question 13, where short tags are wanted: "at the first window ending before the one ahead of it".
+pub fn is_even(plan: &Plan) -> Result<(), Refusal> {
+    let ends: Vec<u64> = plan.windows.iter().map(|w| w.0 + w.1).collect();
+    match (1..ends.len()).find(|&v| ends[v] < ends[v - 1]) {
+        Some(v) => Err(refusal(13, 0, v)),
+        None => Ok(()),
+    }
 }
 
 /// A set of small numbers.
@@ -162,9 +172,17 @@ impl Tree {
         Tree { n, plan: plan.number, overlaps, parent, component, components: roots.len(), depth, rank, last }
     }
 
-    pub fn tag(&self, v: usize) -> [u16; 5] {
-        let fields = [self.component[v], self.depth[v], self.rank[v], self.rank[self.last[v]]];
-        [self.plan, fields[0] as u16, fields[1] as u16, fields[2] as u16, fields[3] as u16]
+    /// The fields of a tag of either form, after the plan number.
+    pub fn fields(&self, form: Form, v: usize) -> Vec<u16> {
+        let fields = match form {
+            Form::Long => vec![self.component[v], self.depth[v], self.rank[v], self.rank[self.last[v]]],
+            Form::Short => vec![self.component[v], self.depth[v], self.rank[v]],
+        };
+        fields.into_iter().map(|field| field as u16).collect()
+    }
+
+    pub fn tag_file(&self, form: Form) -> Vec<u8> {
+        (0..self.n).flat_map(|v| tag_bytes(&[&[self.plan], &self.fields(form, v)[..]].concat())).collect()
     }
 
     pub fn built(&self) -> Answer {
@@ -181,7 +199,7 @@ impl Tree {
             column(&|v| self.rank[v]),
             column(&|v| self.rank[self.last[v]]),
         ];
-        Columns { tables, tags: (0..self.n).flat_map(|v| tag_bytes(self.tag(v))).collect() }
+        Columns { tables, tags: self.tag_file(Form::Long) }
     }
 
     pub fn reach(&self, v: usize) -> usize {
@@ -252,13 +270,13 @@ impl Tree {
     }
 }
 
-pub fn tag_bytes(tag: [u16; 5]) -> Vec<u8> {
+pub fn tag_bytes(tag: &[u16]) -> Vec<u8> {
     tag.iter().flat_map(|x| [(x & 255) as u8, (x >> 8) as u8]).collect()
 }
 
-/// Questions 9 and 10.
-fn read_tag(bytes: &[u8], input: u16) -> Result<[i32; 5], Refusal> {
-    if bytes.len() != 10 {
+/// Questions 9 and 10. A short tag has 0 in the place of the number that it does not have.
+fn read_tag(form: Form, bytes: &[u8], input: u16) -> Result<[i32; 5], Refusal> {
+    if bytes.len() != form.bytes() {
         return Err(refusal(9, input, 0));
     }
     let mut tag = [0; 5];
@@ -271,10 +289,27 @@ fn read_tag(bytes: &[u8], input: u16) -> Result<[i32; 5], Refusal> {
     Ok(tag)
 }
 
+/// The handovers of two long tags of one component, in the paper's order.
+fn long_count(u: [i32; 5], v: [i32; 5]) -> i32 {
+    let (d, rank_u, rank_v, last_u) = (v[2] - u[2], u[3], v[3], u[4]);
+    match rank_u < rank_v {
+        true if rank_v <= last_u || last_u < rank_u => d + 1,
+        true => d + 2,
+        false if rank_v <= last_u && last_u < rank_u => d,
+        false => d + 1,
+    }
+}
+
+/// Of two short ones: "D + 1 if rank u < rank v, else D".
+fn short_count(u: [i32; 5], v: [i32; 5]) -> i32 {
+    let (d, rank_u, rank_v) = (v[2] - u[2], u[3], v[3]);
+    if rank_u < rank_v { d + 1 } else { d }
+}
+
 /// The rule on any two byte strings, in the paper's order. (Of the tags of a plan the answer is held against the search.)
-pub fn pair(first: &[u8], second: &[u8]) -> Result<Answer, Refusal> {
-    let a = read_tag(first, 0)?;
-    let b = read_tag(second, 1)?;
+pub fn pair(form: Form, first: &[u8], second: &[u8]) -> Result<Answer, Refusal> {
+    let a = read_tag(form, first, 0)?;
+    let b = read_tag(form, second, 1)?;
     let [plan_a, component_a, depth_a, rank_a, _] = a;
     let [plan_b, component_b, depth_b, rank_b, _] = b;
     if plan_a != plan_b {
@@ -291,12 +326,9 @@ pub fn pair(first: &[u8], second: &[u8]) -> Result<Answer, Refusal> {
     }
     // "u is the tag with smaller depth, or smaller rank at equal depth"
     let (u, v) = if (depth_a, rank_a) < (depth_b, rank_b) { (a, b) } else { (b, a) };
-    let (d, rank_u, rank_v, last_u) = (v[2] - u[2], u[3], v[3], u[4]);
-    let count = match rank_u < rank_v {
-        true if rank_v <= last_u || last_u < rank_u => d + 1,
-        true => d + 2,
-        false if rank_v <= last_u && last_u < rank_u => d,
-        false => d + 1,
+    let count = match form {
+        Form::Long => long_count(u, v),
+        Form::Short => short_count(u, v),
     };
     Ok(Answer::Handovers(count as u16))
 }

@@ -1,14 +1,19 @@
 //! Every case of paper 01 by name, put to the library and to the oracle: both must have the paper's number, and leave every
 //! lent byte alike. The numbers stand as the paper prints them and none is computed; the few that it does not print follow from
-//! its words: a chain of two windows, the components of a plan of one window, plan 12 twice.
+//! its words: a chain of two windows, the components of a plan of one window, plan 12 twice; and from those of paper 02, Q-1,
+//! the short tags of plan 12 made even.
 use crate::answers::{refusal, Answer};
 use crate::compare::Comparison;
-use crate::oracle::Columns;
+use crate::forms::Form;
+use crate::oracle::{tag_bytes, Columns};
 use crate::refusals::every_call_refuses;
 use crate::shapes::file_of;
 use Says::*;
 
 pub const PLAN_12: [(u32, u32); 7] = [(0, 10), (2, 3), (4, 12), (9, 2), (12, 6), (17, 1), (18, 4)];
+
+/// Plan 12 with windows 1 and 3 longer, so that no end falls. Its tree is that of plan 12.
+pub const PLAN_12_EVEN: [(u32, u32); 7] = [(0, 10), (2, 9), (4, 12), (9, 8), (12, 6), (17, 1), (18, 4)];
 
 /// The listing of plan 12, as the paper prints it.
 const LISTING: &str = "\
@@ -56,6 +61,12 @@ enum Says {
     RankOfLast(usize, u16),
     /// The number of the question, and the position.
     Refused(u16, usize),
+    /// The short tags.
+    ShortTags(&'static [[u16; 4]]),
+    /// Of two windows of an even plan, the number of handovers by their short tags.
+    ShortHandovers(usize, usize, u16),
+    /// No short tags: at this position an end falls.
+    Falls(usize),
 }
 
 pub struct Case {
@@ -69,7 +80,7 @@ fn case(name: &'static str, windows: &[(u32, u32)], says: Says) -> Case {
 }
 
 pub fn cases() -> Vec<Case> {
-    [worked(), edges(), long_inputs(), traps()].into_iter().flatten().collect()
+    [worked(), edges(), long_inputs(), traps(), short_tags()].into_iter().flatten().collect()
 }
 
 fn worked() -> Vec<Case> {
@@ -150,6 +161,25 @@ fn traps() -> Vec<Case> {
     ]
 }
 
+const SHORT_TAGS: [[u16; 4]; 7] =
+    [[12, 0, 0, 5], [12, 0, 1, 0], [12, 0, 1, 3], [12, 0, 1, 4], [12, 0, 2, 2], [12, 0, 3, 1], [12, 1, 0, 0]];
+
+/// Paper 02, Q-1.
+fn short_tags() -> Vec<Case> {
+    let even = |name, says| case(name, &PLAN_12_EVEN, says);
+    vec![
+        even("plan 12 made even: its short tags", ShortTags(&SHORT_TAGS)),
+        even("1 and 3 of plan 12 made even: 1 handover", ShortHandovers(1, 3, 1)),
+        even("3 and 5 of plan 12 made even: 2 handovers", ShortHandovers(3, 5, 2)),
+        even("1 and 5 of plan 12 made even: 3 handovers", ShortHandovers(1, 5, 3)),
+        // By the short rule windows 1 and 3 would be 1 handover apart.
+        case("an end falls in plan 12 at position 1", &PLAN_12, Falls(1)),
+        case("an end falls by a minute", &[(0, 10), (0, 9)], Falls(1)),
+        case("equal ends do not fall", &[(0, 10), (1, 9)], ShortTags(&[[12, 0, 0, 1], [12, 0, 1, 0]])),
+        case("four bytes with n = 0: no short tags, and no refusal", &[], ShortTags(&[])),
+    ]
+}
+
 impl Case {
     /// How the listing program's text begins, as far as the case says it.
     pub fn printed(&self) -> String {
@@ -172,6 +202,9 @@ impl Case {
             Rank(at, rank) => assert_eq!(columns(comparison, file).tables[3][at], rank, "rank"),
             RankOfLast(at, rank) => assert_eq!(columns(comparison, file).tables[4][at], rank, "rank of the last"),
             Refused(number, position) => every_call_refuses(comparison, file, number, position),
+            ShortTags(tags) => short_tag_file(comparison, file, tags),
+            ShortHandovers(u, v, count) => short_handovers(comparison, file, (u, v), count),
+            Falls(position) => falls(comparison, file, position),
         }
         assert_eq!(file, &self.file, "a file that was only to be read");
     }
@@ -203,7 +236,7 @@ fn lists(comparison: &mut Comparison, file: &[u8], listing: &str) {
         assert_eq!(row[0] as usize, position, "the paper's positions");
         let tag = [line[0], row[2], row[3], row[4], row[5]];
         let bytes: Vec<u8> = tag.iter().flat_map(|number| number.to_le_bytes()).collect();
-        comparison.write(tag, 12).are(format_args!("write of {tag:?}"), Answer::Written, &bytes);
+        comparison.write(&tag, 12).are(format_args!("write of {tag:?}"), Answer::Written, &bytes);
         paper.tags.extend(bytes);
         for (column, &number) in paper.tables.iter_mut().zip(&row[1..]) {
             column.push(number);
@@ -212,7 +245,7 @@ fn lists(comparison: &mut Comparison, file: &[u8], listing: &str) {
     assert_eq!(columns(comparison, file), paper, "the tables and the tag file (left) and the paper's");
     let [plan, windows, components] = line;
     for more in MORE {
-        let tags = comparison.tag_file(file, paper.tags.len() + more);
+        let tags = comparison.tag_file(Form::Long, file, paper.tags.len() + more);
         tags.are(format_args!("tags"), Answer::Built { plan, windows, components }, &paper.tags);
     }
     for position in 0..line[1] as usize {
@@ -229,15 +262,23 @@ fn columns(comparison: &mut Comparison, file: &[u8]) -> Columns {
     built.written
 }
 
+/// From two tags alone and from the tag file, in both orders.
+fn from_tags(comparison: &mut Comparison, form: Form, tags: &[u8], (u, v): (usize, usize), answer: Answer) {
+    let tag = |at: usize| &tags[form.bytes() * at..][..form.bytes()];
+    for (first, second) in [(u, v), (v, u)] {
+        let both = comparison.pair(form, tag(first), tag(second));
+        both.are(format_args!("{form:?} pair of {first} and {second}"), answer, &());
+        let both = comparison.pair_at(form, tags, first, second);
+        both.are(format_args!("{form:?} pair at {first} and {second}"), answer, &());
+    }
+}
+
 /// From two tags and from the plan, in both orders; the oracle has a rule for the one and a search for the other.
 fn handovers(comparison: &mut Comparison, file: &[u8], (u, v): (usize, usize), count: u16, chain: Option<&[u16]>) {
     let tags = columns(comparison, file).tags;
     let entries = count as usize + 1;
+    from_tags(comparison, Form::Long, &tags, (u, v), Answer::Handovers(count));
     for (first, second) in [(u, v), (v, u)] {
-        let both = comparison.pair(&tags[10 * first..][..10], &tags[10 * second..][..10]);
-        both.are(format_args!("pair of {first} and {second}"), Answer::Handovers(count), &());
-        let both = comparison.pair_at(&tags, first, second);
-        both.are(format_args!("pair at {first} and {second}"), Answer::Handovers(count), &());
         for more in MORE {
             let both = comparison.chain(file, first, second, entries + more);
             let paper = chain.map_or(both.written.clone(), <[u16]>::to_vec);
@@ -250,13 +291,37 @@ fn handovers(comparison: &mut Comparison, file: &[u8], (u, v): (usize, usize), c
 
 fn no_chain(comparison: &mut Comparison, file: &[u8], (u, v): (usize, usize)) {
     let tags = columns(comparison, file).tags;
+    from_tags(comparison, Form::Long, &tags, (u, v), Answer::NoChain);
     for (first, second) in [(u, v), (v, u)] {
-        let both = comparison.pair(&tags[10 * first..][..10], &tags[10 * second..][..10]);
-        both.are(format_args!("pair of {first} and {second}"), Answer::NoChain, &());
-        comparison.pair_at(&tags, first, second).are(format_args!("pair at {first} and {second}"), Answer::NoChain, &());
         for room in MORE {
             let both = comparison.chain(file, first, second, room);
             both.are(format_args!("chain of {first} and {second}"), Answer::NoChain, &vec![]);
         }
     }
+}
+
+fn short_tag_file(comparison: &mut Comparison, file: &[u8], paper: &[[u16; 4]]) {
+    let bytes: Vec<u8> = paper.iter().flat_map(|tag| tag_bytes(tag)).collect();
+    for more in MORE {
+        let both = comparison.tag_file(Form::Short, file, bytes.len() + more);
+        both.are(format_args!("short tags"), both.oracle, &bytes);
+    }
+    for tag in paper {
+        comparison.write(tag, 10).are(format_args!("write of {tag:?}"), Answer::Written, &tag_bytes(tag));
+    }
+}
+
+/// From the short tags, the long ones and the plan.
+fn short_handovers(comparison: &mut Comparison, file: &[u8], at: (usize, usize), count: u16) {
+    let tags = comparison.tag_file(Form::Short, file, 8 * windows(file)).written;
+    from_tags(comparison, Form::Short, &tags, at, Answer::Handovers(count));
+    handovers(comparison, file, at, count, None);
+}
+
+fn falls(comparison: &mut Comparison, file: &[u8], position: usize) {
+    for room in [0, 8 * windows(file)] {
+        let both = comparison.tag_file(Form::Short, file, room);
+        both.are(format_args!("short tags, room for {room}"), Answer::Refused(refusal(13, 0, position)), &vec![]);
+    }
+    columns(comparison, file);
 }

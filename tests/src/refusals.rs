@@ -2,8 +2,9 @@
 //! that a faulty file or tag is due stand beside it, from the order of the paper's questions.
 use crate::answers::{refusal, Answer};
 use crate::compare::Comparison;
+use crate::forms::{Form, FORMS};
 use crate::oracle::{tag_bytes, Columns};
-use crate::paper::PLAN_12;
+use crate::paper::{PLAN_12, PLAN_12_EVEN};
 use crate::shapes::file_of;
 
 /// A file that is refused: by which question, and at which position.
@@ -76,7 +77,9 @@ pub fn every_call_refuses(comparison: &mut Comparison, file: &[u8], number: u16,
     comparison.validate(file).are(format_args!("validate"), first, &());
     for (room, at) in [(0, 0), (2053, 0), (0, usize::MAX), (2053, usize::MAX)] {
         comparison.build(file, [room; 5], 10 * room).are(format_args!("build"), first, &Columns::default());
-        comparison.tag_file(file, 10 * room).are(format_args!("tags"), first, &vec![]);
+        for form in FORMS {
+            comparison.tag_file(form, file, form.bytes() * room).are(format_args!("{form:?} tags"), first, &vec![]);
+        }
         comparison.reach(file, at).are(format_args!("reach"), first, &());
         comparison.neighbours(file, at, room).are(format_args!("neighbours"), first, &vec![]);
         comparison.chain(file, at, 0, room).are(format_args!("chain"), first, &vec![]);
@@ -112,16 +115,50 @@ pub fn two_files(comparison: &mut Comparison) {
     }
 }
 
-/// Accepted plans: none, one, two that touch, two that overlap, and plan 12.
-fn sound_plans() -> [Vec<u8>; 5] {
-    let plans: [&[(u32, u32)]; 5] = [&[], &[(5, 5)], &[(0, 10), (10, 5)], &[(5, 5), (5, 5)], &PLAN_12];
+/// The sound windows, made so long that all end at minute 100, but that at each of some positions the end falls by one.
+fn falling_at(positions: &[usize]) -> [(u32, u32); 4] {
+    [0, 1, 2, 3].map(|v| {
+        let falls = positions.iter().filter(|&&at| at <= v).count() as u32;
+        (SOUND[v].0, 100 - falls - SOUND[v].0)
+    })
+}
+
+/// Question 13, alone and twice, whatever the room is; and with any of 3 to 6, at whichever window that is, which come first.
+pub fn falling_ends(comparison: &mut Comparison) {
+    let falls: [&[usize]; 7] = [&[1], &[2], &[3], &[1, 2], &[1, 3], &[2, 3], &[1, 2, 3]];
+    for falls in falls {
+        let windows = falling_at(falls);
+        let file = file_of(12, &windows);
+        comparison.validate(&file).agree(format_args!("validate of falling ends"));
+        let mut refuses = |file: &[u8], number: u16, position: usize| {
+            for room in [0, 31, 32, 33] {
+                let what = format_args!("short tags of ends that fall at {falls:?}, room for {room}");
+                let refused = Answer::Refused(refusal(number, 0, position));
+                comparison.tag_file(Form::Short, file, room).are(what, refused, &vec![]);
+            }
+        };
+        refuses(&file, 13, falls[0]);
+        refuses(&file[..file.len() - 1], 3, 0);
+        for at in 0..windows.len() {
+            for (number, window) in faulty_windows(at) {
+                let mut other = windows;
+                other[at] = window;
+                refuses(&file_of(12, &other), number, at);
+            }
+        }
+    }
+}
+
+/// Accepted plans: none, one, two that touch, two that overlap, plan 12, and the same made even.
+fn sound_plans() -> [Vec<u8>; 6] {
+    let plans: [&[(u32, u32)]; 6] = [&[], &[(5, 5)], &[(0, 10), (10, 5)], &[(5, 5), (5, 5)], &PLAN_12, &PLAN_12_EVEN];
     plans.map(|windows| file_of(12, windows))
 }
 
-/// Every position of n windows, and positions past them: the next ones, those that are windows in 16, in 32 or in 63 bits, and
+/// Every position of n windows, and positions past them: the next ones, those that are windows in 16, 32, 61 or 63 bits, and
 /// those that are windows in 64 bits once they have been multiplied by ten.
 fn positions(n: usize) -> Vec<usize> {
-    let cut = [1 << 16, 1 << 32, 1 << 63].into_iter().flat_map(|high| [high, high + n.saturating_sub(1)]);
+    let cut = [1 << 16, 1 << 32, 1 << 61, 1 << 63].into_iter().flat_map(|high| [high, high + n.saturating_sub(1)]);
     (0..n).chain([n, n + 1, 2047, 2048, usize::MAX / 10, usize::MAX / 10 + 1, usize::MAX]).chain(cut).collect()
 }
 
@@ -142,7 +179,7 @@ pub fn positions_and_rooms(comparison: &mut Comparison) {
     }
 }
 
-/// Each table and the tag file one too short, exactly fitting or one longer, in every combination; and the tag file alone.
+/// Each table and the tag file one too short, exactly fitting or one longer, in every combination.
 pub fn rooms_of_build(comparison: &mut Comparison) {
     for file in sound_plans() {
         let n = (file.len() - 4) / 8;
@@ -152,14 +189,27 @@ pub fn rooms_of_build(comparison: &mut Comparison) {
             let tags = room(5, 10 * n);
             comparison.build(&file, rooms, tags).agree(format_args!("build with rooms {rooms:?} and {tags}"));
         }
-        for room in 0..10 * n + 2 {
-            comparison.tag_file(&file, room).agree(format_args!("tags, room for {room}"));
+    }
+}
+
+/// The tag file alone, into every room from none to more than either form needs, and into rooms that are too little in 16 bits.
+pub fn rooms_of_tags(comparison: &mut Comparison, form: Form) {
+    for file in sound_plans() {
+        let n = (file.len() - 4) / 8;
+        for room in (0..10 * n + 12).chain([65_536, 65_536 + form.bytes() * n - n.min(1)]) {
+            comparison.tag_file(form, &file, room).agree(format_args!("{form:?} tags, room for {room}"));
         }
+    }
+    let longest = file_of(12, &vec![(0, 1); 2048]);
+    let whole = 2048 * form.bytes();
+    for room in [0, whole - 1, whole, whole + 1] {
+        comparison.tag_file(form, &longest, room).agree(format_args!("{form:?} tags of 2,048 windows, room for {room}"));
     }
 }
 
 /// Byte strings as tags, each with the question, 9 or 10, that refuses it, and 0 where neither does.
-fn tags() -> Vec<(u16, Vec<u8>)> {
+fn tags(form: Form) -> Vec<(u16, Vec<u8>)> {
+    let numbers = form.numbers();
     let sound = [
         [12, 0, 2, 2, 1],
         [12, 0, 3, 1, 1],
@@ -174,37 +224,41 @@ fn tags() -> Vec<(u16, Vec<u8>)> {
         [65_535, 2047, 2047, 2047, 2047],
         [65_535, 2047, 0, 0, 0],
     ];
-    let mut all: Vec<(u16, Vec<u8>)> = sound.map(|tag| (0, tag_bytes(tag))).to_vec();
+    let mut all: Vec<(u16, Vec<u8>)> = sound.map(|tag| (0, tag_bytes(&tag[..numbers]))).to_vec();
     for plan in [12, 13] {
-        for field in 1..5 {
+        for field in 1..numbers {
             for number in [2048, 65_535] {
                 let mut tag = [plan, 0, 2, 2, 1];
                 tag[field] = number;
-                all.push((10, tag_bytes(tag)));
+                all.push((10, tag_bytes(&tag[..numbers])));
             }
         }
     }
-    // The longest is of 10 bytes in 16 bits; where all bytes are 255, each field is too great as well.
-    all.extend([0, 1, 8, 9, 11, 20, 65_546].map(|length| (9, vec![0; length])));
-    all.extend([9, 11].map(|length| (9, vec![255; length])));
+    // A tag of the other form is among them. The longest has a tag's length in 16 bits; where all bytes are 255, each field
+    // is too great as well.
+    let right = form.bytes();
+    let wrong = [0, 1, 7, 8, 9, 10, 11, 2 * right, 65_536 + right].into_iter().filter(|&length| length != right);
+    all.extend(wrong.map(|length| (9, vec![0; length])));
+    all.extend([right - 1, right + 1].map(|length| (9, vec![255; length])));
     all
 }
 
 /// Each two, in both orders: the first tag's refusal, then the second's, and then 11 and 12. From a tag file of the two it is
 /// the same.
-pub fn two_tags(comparison: &mut Comparison) {
-    let tags = tags();
+pub fn two_tags(comparison: &mut Comparison, form: Form) {
+    let tags = tags(form);
     for (first_number, first) in &tags {
         for (second_number, second) in &tags {
-            let both = comparison.pair(first, second);
-            let what = format_args!("pair of {:?} and {:?}", &first[..first.len().min(12)], &second[..second.len().min(12)]);
+            let both = comparison.pair(form, first, second);
+            let shown = |tag: &[u8]| tag[..tag.len().min(12)].to_vec();
+            let what = format_args!("{form:?} pair of {:?} and {:?}", shown(first), shown(second));
             match (first_number, second_number) {
                 (0, 0) => both.agree(what),
                 (0, &number) => both.are(what, Answer::Refused(refusal(number, 1, 0)), &()),
                 (&number, _) => both.are(what, Answer::Refused(refusal(number, 0, 0)), &()),
             }
-            if first.len() == 10 && second.len() == 10 {
-                comparison.pair_at(&[&first[..], second].concat(), 0, 1).are(what, both.oracle, &());
+            if first.len() == form.bytes() && second.len() == form.bytes() {
+                comparison.pair_at(form, &[&first[..], second].concat(), 0, 1).are(what, both.oracle, &());
             }
         }
     }
@@ -212,28 +266,34 @@ pub fn two_tags(comparison: &mut Comparison) {
 
 /// Tag files of every length, the last with more tags than 16 bits can count; 9 comes before 7, and the first position before
 /// the second.
-pub fn tag_files(comparison: &mut Comparison) {
-    for length in (0..=41).chain([69, 70, 71, 20_480, 20_490]).chain([655_360, 655_370, 655_371]) {
+pub fn tag_files(comparison: &mut Comparison, form: Form) {
+    let tag = form.bytes();
+    let edges = [7, 2048, 2049, 65_536, 65_537].into_iter().flat_map(|n| [tag * n - 1, tag * n, tag * n + 1]);
+    for length in (0..=41).chain(edges) {
         let tags = vec![7; length];
-        let n = length / 10;
+        let n = length / tag;
         let ends = [n.saturating_sub(2), n.saturating_sub(1), 65_535, 65_536];
         for at in positions(n.min(4)).into_iter().chain(ends).chain([n, n + 1]) {
-            comparison.lookup(&tags, at).agree(format_args!("lookup of {at} in {length} bytes"));
+            if form == Form::Long {
+                comparison.lookup(&tags, at).agree(format_args!("lookup of {at} in {length} bytes"));
+            }
             for other in positions(n.min(4)).into_iter().chain(ends) {
-                comparison.pair_at(&tags, at, other).agree(format_args!("pair at {at} and {other} in {length} bytes"));
+                let what = format_args!("{form:?} pair at {at} and {other} in {length} bytes");
+                comparison.pair_at(form, &tags, at, other).agree(what);
             }
         }
     }
 }
 
 /// Each field at its limit and above it, into too little room, room that fits and more; 8 comes before 10. The greatest room is
-/// of 9 bytes in 16 bits.
-pub fn written_tags(comparison: &mut Comparison) {
-    for field in 0..5 {
+/// a byte too little in 16 bits.
+pub fn written_tags(comparison: &mut Comparison, form: Form) {
+    for field in 0..form.numbers() {
         for number in [0, 255, 256, 2047, 2048, 32_768, 65_535] {
             let mut tag = [12, 0, 2, 2, 1];
             tag[field] = number;
-            for room in [0, 1, 9, 10, 11, 65_545] {
+            let tag = &tag[..form.numbers()];
+            for room in (0..=12).chain([65_535 + form.bytes()]) {
                 comparison.write(tag, room).agree(format_args!("write of {tag:?} into {room} bytes"));
             }
         }

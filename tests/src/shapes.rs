@@ -25,6 +25,27 @@ pub fn patterns(n: usize) -> Vec<Vec<(u32, u32)>> {
     all
 }
 
+/// The same offsets and the same ends, with the ends in rising order: an even plan, in which at every minute as many windows
+/// are open as before.
+pub fn evened(windows: &[(u32, u32)]) -> Vec<(u32, u32)> {
+    let mut ends: Vec<u32> = windows.iter().map(|w| w.0 + w.1).collect();
+    ends.sort_unstable();
+    windows.iter().zip(ends).map(|(w, end)| (w.0, end - w.0)).collect()
+}
+
+/// An even plan in which one window ends with the one ahead of it, or a minute before, where it can.
+pub fn nearly_even(windows: &[(u32, u32)], random: &mut Random) -> Vec<(u32, u32)> {
+    let mut windows = evened(windows);
+    let n = windows.len() as u64;
+    if n > 1 {
+        let v = random.between(1, n - 1) as usize;
+        let ahead = windows[v - 1].0 + windows[v - 1].1;
+        let end = ahead - random.below(2) as u32;
+        windows[v].1 = end.saturating_sub(windows[v].0).max(1);
+    }
+    windows
+}
+
 #[derive(Clone, Copy, Debug)]
 pub enum Shape {
     Sparse,
