@@ -73,6 +73,30 @@ static void check_build(void) {
     check(refused(poddreshi_pair_at(tags, 70, 0, 7), 7, 1, 0), "a second position past the last tag");
 }
 
+/* Plan 12 with windows 1 and 3 longer is even and has the tree of plan 12; windows 3 and 4 overlap in it. */
+static void check_short(void) {
+    static uint8_t even[60], tags_of_even[56], short_tag[8];
+    int i;
+
+    check(refused(poddreshi_short_tags(file, sizeof file, tags_of_even, 56), 13, 0, 1), "an end that falls");
+    memcpy(even, file, sizeof file);
+    even[8 + 8 * 1] = 9;
+    even[8 + 8 * 3] = 8;
+    check(is(poddreshi_short_tags(even, sizeof even, tags_of_even, 56), PODDRESHI_BUILT, 12, 7, 2), "short tags");
+    for (i = 0; i < 7; i++) {
+        const uint16_t *row = numbers[i];
+
+        check(is(poddreshi_short_write(12, row[1], row[2], row[3], short_tag, 8), PODDRESHI_WRITTEN, 0, 0, 0), "short write");
+        check(memcmp(tags_of_even + 8 * i, short_tag, 8) == 0, "the short tags");
+    }
+    check(refused(poddreshi_short_tags(even, sizeof even, tags_of_even, 55), 8, 0, 0), "a short tag file too short");
+    check(is(poddreshi_short_pair(tags_of_even + 24, 8, tags_of_even + 40, 8), PODDRESHI_HANDOVERS, 2, 0, 0), "short pair");
+    check(refused(poddreshi_short_pair(tags_of_even, 8, tags, 10), 9, 1, 0), "a second tag that is not short");
+    check(is(poddreshi_short_pair_at(tags_of_even, 56, 3, 5), PODDRESHI_HANDOVERS, 2, 0, 0), "short pair at two positions");
+    check(is(poddreshi_short_pair_at(tags_of_even, 56, 6, 5), PODDRESHI_NO_CHAIN, 0, 0, 0), "no chain of two short tags");
+    check(refused(poddreshi_short_pair_at(tags_of_even, 56, 0, 7), 7, 1, 0), "a second position past the last short tag");
+}
+
 /* The figures are where the library's answers change. */
 static void check_figures(void) {
     static uint8_t longest[PODDRESHI_FILE_LIMIT];
@@ -81,6 +105,10 @@ static void check_figures(void) {
     check(is(poddreshi_write(12, PODDRESHI_FIELD_LIMIT, 0, 0, 0, tag, PODDRESHI_TAG_LENGTH), PODDRESHI_WRITTEN, 0, 0, 0), "a tag");
     check(refused(poddreshi_write(12, 0, 0, 0, 0, tag, PODDRESHI_TAG_LENGTH - 1), 8, 0, 0), "the tag's length");
     check(refused(poddreshi_write(12, PODDRESHI_FIELD_LIMIT + 1, 0, 0, 0, tag, 10), 10, 0, 0), "the field's limit");
+    check(is(poddreshi_short_write(12, 0, 0, PODDRESHI_FIELD_LIMIT, tag, PODDRESHI_SHORT_TAG_LENGTH), PODDRESHI_WRITTEN, 0, 0, 0),
+          "a short tag");
+    check(refused(poddreshi_short_write(12, 0, 0, 0, tag, PODDRESHI_SHORT_TAG_LENGTH - 1), 8, 0, 0), "the short tag's length");
+    check(refused(poddreshi_short_write(12, 0, 0, PODDRESHI_FIELD_LIMIT + 1, tag, 8), 10, 0, 0), "the short field's limit");
     longest[2] = n % 256;
     longest[3] = n / 256;
     for (i = 0; i < n; i++) longest[8 + 8 * i] = 1;
@@ -100,6 +128,7 @@ int main(void) {
     }
     check_plan();
     check_build();
+    check_short();
     check_figures();
     file[4 + 8 * 3] = 1;
     check(refused(poddreshi_validate(file, sizeof file), 6, 0, 3), "a falling offset");

@@ -9,7 +9,7 @@
 
 enum { WINDOWS = 2048, STACK = 1 << 20, PAINT = 0xA5 };
 
-static unsigned char plan[4 + 8 * WINDOWS], tags[10 * WINDOWS];
+static unsigned char plan[4 + 8 * WINDOWS], tags[10 * WINDOWS], short_tags[8 * WINDOWS];
 static uint16_t tables[5][WINDOWS];
 
 static void nothing(void) {}
@@ -19,17 +19,30 @@ static void build(void) {
                     WINDOWS, tags, sizeof tags);
 }
 static void tag_file(void) { poddreshi_tags(plan, sizeof plan, tags, sizeof tags); }
+static void short_tag_file(void) { poddreshi_short_tags(plan, sizeof plan, short_tags, sizeof short_tags); }
 static void reach(void) { poddreshi_reach(plan, sizeof plan, 5); }
 static void chain(void) { poddreshi_chain(plan, sizeof plan, 0, WINDOWS - 1, tables[0], WINDOWS); }
 static void neighbours(void) { poddreshi_neighbours(plan, sizeof plan, 5, tables[0], WINDOWS); }
 static void same(void) { poddreshi_same(plan, sizeof plan, plan, sizeof plan); }
 static void pair(void) { poddreshi_pair(tags, 10, tags + 10, 10); }
 static void pair_at(void) { poddreshi_pair_at(tags, sizeof tags, 3, 700); }
+static void write_tag(void) { poddreshi_write(12, 0, 2, 2, 1, tags, sizeof tags); }
+static void lookup(void) {
+    size_t offset;
+    poddreshi_lookup(tags, sizeof tags, 700, &offset);
+}
+static void short_pair(void) { poddreshi_short_pair(short_tags, 8, short_tags + 8, 8); }
+static void short_pair_at(void) { poddreshi_short_pair_at(short_tags, sizeof short_tags, 3, 700); }
+static void write_short(void) { poddreshi_short_write(12, 0, 2, 2, short_tags, sizeof short_tags); }
 
+/* The calls on tags stand behind those that write them, and those that write over a tag behind the calls on it. */
 static const struct { const char *name; void (*call)(void); long most; } calls[] = {
-    {"nothing", nothing, 0},           {"validate", validate, 17000}, {"build", build, 17000}, {"tags", tag_file, 38000},
-    {"reach", reach, 17000},           {"chain", chain, 17000},       {"same", same, 17000},   {"pair", pair, 100},
-    {"neighbours", neighbours, 17000}, {"pair_at", pair_at, 100},
+    {"nothing", nothing, 0},           {"validate", validate, 17000},         {"build", build, 17000},
+    {"tags", tag_file, 38000},         {"short_tags", short_tag_file, 38000}, {"reach", reach, 17000},
+    {"chain", chain, 17000},           {"neighbours", neighbours, 17000},     {"same", same, 17000},
+    {"pair", pair, 100},               {"pair_at", pair_at, 100},             {"lookup", lookup, 100},
+    {"write", write_tag, 100},         {"short_pair", short_pair, 100},       {"short_pair_at", short_pair_at, 100},
+    {"short_write", write_short, 100},
 };
 
 static void *run(void *call) {
