@@ -127,7 +127,8 @@ uint64_t poddreshi_pair(const uint8_t *first, size_t first_length, const uint8_t
 uint64_t poddreshi_pair_at(const uint8_t *tags, size_t tags_length, size_t first, size_t second);
 
 /* The answer from two short tags alone. Questions 9 and 10 for the first tag, then for the second, then 11 and 12.
- * HANDOVERS or NO_CHAIN: for the short tags of an even plan what a pair answers for its long ones. */
+ * HANDOVERS: the least number of handovers between the two windows, for the tags that poddreshi_short_tags writes.
+ * NO_CHAIN: no chain joins the two windows. */
 uint64_t poddreshi_short_pair(const uint8_t *first, size_t first_length, const uint8_t *second, size_t second_length);
 
 /* The answer from the short tags at two positions of a short tag file. Question 9, 7 for the first position and then the second (the
