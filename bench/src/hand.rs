@@ -153,6 +153,45 @@ pub fn hand_build(file: &[u8], tables: [&mut [u16]; 5], tags: &mut [u8]) -> Resu
     Ok((plan, n as u16, count))
 }
 
+/// The first window that ends before the one ahead of it.
+fn first_fall(ends: &[u32]) -> Option<usize> {
+    let ahead = ends.windows(2).position(|two| two[1] < two[0])?;
+    Some(ahead + 1)
+}
+
+fn write_short_tags(plan: u16, tables: [&[u16]; 3], tags: &mut [u8]) {
+    let [components, depths, ranks] = tables;
+    let numbers = components.iter().zip(depths).zip(ranks);
+    for (tag, ((component, depth), rank)) in tags.chunks_exact_mut(8).zip(numbers) {
+        for (two, number) in tag.chunks_exact_mut(2).zip([plan, *component, *depth, *rank]) {
+            two.copy_from_slice(&number.to_le_bytes());
+        }
+    }
+}
+
+/// Plan number, windows, components.
+#[no_mangle]
+#[inline(never)]
+pub fn hand_short_tags(file: &[u8], tags: &mut [u8]) -> Result<(u16, u16, u16), Refusal> {
+    let (plan, pairs) = validate(file)?;
+    let n = pairs.len() / 8;
+    let spans = spans(pairs);
+    let (offsets, ends) = (&spans.offsets[..n], &spans.ends[..n]);
+    if let Some(position) = first_fall(ends) {
+        return no(13, 0, position);
+    }
+    if tags.len() < 8 * n {
+        return no(8, 0, 0);
+    }
+    let mut tables = [[0; MOST]; 4];
+    let [parents, components, depths, ranks] = tables.each_mut().map(|table| &mut table[..n]);
+    find_parents(offsets, ends, parents);
+    let count = number_levels(parents, components, depths);
+    find_ranks(parents, ranks);
+    write_short_tags(plan, [components, depths, ranks], tags);
+    Ok((plan, n as u16, count))
+}
+
 #[derive(Clone, Copy, PartialEq)]
 struct Tag {
     plan: u16,
@@ -202,6 +241,49 @@ pub fn hand_pair(first: &[u8], second: &[u8]) -> Result<Option<u16>, Refusal> {
         levels + 1
     };
     Ok(Some(count))
+}
+
+#[derive(Clone, Copy, PartialEq)]
+struct ShortTag {
+    plan: u16,
+    component: u16,
+    depth: u16,
+    rank: u16,
+}
+
+fn read_short_tag(bytes: &[u8], input: u8) -> Result<ShortTag, Refusal> {
+    if bytes.len() != 8 {
+        return no(9, input, 0);
+    }
+    let field = |i: usize| two(bytes, 2 * i);
+    let tag = ShortTag { plan: field(0), component: field(1), depth: field(2), rank: field(3) };
+    if max(max(tag.component, tag.depth), tag.rank) > 2047 {
+        return no(10, input, 0);
+    }
+    Ok(tag)
+}
+
+/// The number of handovers, or none where no chain joins the windows.
+#[no_mangle]
+#[inline(never)]
+pub fn hand_short_pair(first: &[u8], second: &[u8]) -> Result<Option<u16>, Refusal> {
+    let a = read_short_tag(first, 0)?;
+    let b = read_short_tag(second, 1)?;
+    if a.plan != b.plan {
+        return no(11, 1, 0);
+    }
+    if a == b {
+        return Ok(Some(0));
+    }
+    if a.component != b.component {
+        return Ok(None);
+    }
+    if a.rank == b.rank {
+        return no(12, 1, 0);
+    }
+    let (u, v) = if (a.depth, a.rank) < (b.depth, b.rank) { (a, b) } else { (b, a) };
+    let levels = v.depth - u.depth;
+    Ok(Some(if u.rank < v.rank { levels + 1 } else { levels }))
 }
 
 fn overlap(u: (u32, u32), v: (u32, u32)) -> bool {

@@ -1,18 +1,19 @@
 //! Times of the library's calls, beside the same algorithms by hand in Rust, a breadth-first search for each query and a graph
 //! library's search, all in one run. Every answer is compared before anything is timed.
 //!
-//!   bench                             the table
+//!   bench                             the tables
 //!   bench --count CALL WHO SHAPE N    makes one call only (CALL of WHO, ours or hand), for an instruction counter
 mod hand;
 mod plans;
 mod search;
+mod short;
 mod time;
 
 #[path = "../../include/poddreshi.rs"]
 mod interface;
 
 use interface::{poddreshi_build, poddreshi_chain, poddreshi_neighbours, poddreshi_pair};
-use plans::{Case, SHAPES};
+use plans::{Case, EVEN_SHAPES, SHAPES};
 use search::{Graph, Library, Scratch};
 use std::hint::black_box;
 use time::{medians, times};
@@ -121,10 +122,10 @@ fn build_all(case: &Case, lent: &mut Tables) {
 
 fn measure_build(case: &Case) {
     let (mut ours, mut theirs) = (Tables::new(case.n), Tables::new(case.n));
-    let [a, b] = medians(
+    let [a, b] = medians([
         &mut || build_all(case, &mut ours),
         &mut || case.files.iter().for_each(|file| keep(build_by_hand(file, &mut theirs))),
-    );
+    ]);
     let plans = case.files.len() as f64;
     row(case, "build", a / plans, b / plans);
 }
@@ -132,17 +133,17 @@ fn measure_build(case: &Case) {
 /// How many times longer build takes for twice the windows, both measured turn by turn.
 fn measure_growth(small: &Case, large: &Case) -> f64 {
     let (mut few, mut many) = (Tables::new(small.n), Tables::new(large.n));
-    let [a, b] = medians(&mut || build_all(small, &mut few), &mut || build_all(large, &mut many));
+    let [a, b] = medians([&mut || build_all(small, &mut few), &mut || build_all(large, &mut many)]);
     b / a
 }
 
 fn measure_pair(case: &Case) -> f64 {
     let tags = plans::tags_of(case);
     let queries = &case.queries[..];
-    let [a, b] = medians(
+    let [a, b] = medians([
         &mut || queries.iter().for_each(|&(u, v)| keep(pair(tag(&tags, u), tag(&tags, v)))),
         &mut || queries.iter().for_each(|&(u, v)| keep(hand::hand_pair(tag(&tags, u), tag(&tags, v)))),
-    );
+    ]);
     let count = queries.len() as f64;
     row(case, "pair", a / count, b / count);
     a / count
@@ -151,15 +152,15 @@ fn measure_pair(case: &Case) -> f64 {
 fn measure_plan_calls(case: &Case) {
     let (mut ours, mut theirs) = (Tables::new(case.n).out, Tables::new(case.n).out);
     let asked = || case.files.iter().cycle().zip(&case.queries[..FEW]);
-    let [a, b] = medians(
+    let [a, b] = medians([
         &mut || asked().for_each(|(file, &(u, v))| keep(chain(file, u, v, &mut ours))),
         &mut || asked().for_each(|(file, &(u, v))| keep(hand::hand_chain(file, u, v, &mut theirs))),
-    );
+    ]);
     row(case, "chain", a / FEW as f64, b / FEW as f64);
-    let [a, b] = medians(
+    let [a, b] = medians([
         &mut || asked().for_each(|(file, &(u, _))| keep(neighbours(file, u, &mut ours))),
         &mut || asked().for_each(|(file, &(u, _))| keep(hand::hand_neighbours(file, u, &mut theirs))),
-    );
+    ]);
     row(case, "neighbours", a / FEW as f64, b / FEW as f64);
 }
 
@@ -178,17 +179,25 @@ fn searches(case: &Case, graph: &Graph, library: &Option<Library>, pair_time: f6
 }
 
 fn count(words: &[String]) {
-    let shape = SHAPES.into_iter().find(|shape| shape.name() == words[2]).expect("a shape");
+    let shape = SHAPES.into_iter().chain(EVEN_SHAPES).find(|shape| shape.name() == words[2]).expect("a shape");
     let case = Case::new(shape, words[3].parse().expect("a number of windows"));
     let mut lent = Tables::new(case.n);
     let (file, (u, v)) = (&case.files[0][..], case.queries[0]);
     // No table is built where build is counted.
-    let tags = if words[0] == "pair" { plans::tags_of(&case) } else { Vec::new() };
+    let tags = match words[0].as_str() {
+        "pair" => plans::tags_of(&case),
+        "short_pair" => plans::short_tags_of(&case),
+        _ => Vec::new(),
+    };
     match (words[0].as_str(), words[1].as_str()) {
         ("build", "ours") => keep(build(file, &mut lent)),
         ("build", _) => keep(build_by_hand(file, &mut lent)),
         ("pair", "ours") => keep(pair(tag(&tags, u), tag(&tags, v))),
         ("pair", _) => keep(hand::hand_pair(tag(&tags, u), tag(&tags, v))),
+        ("short_tags", "ours") => keep(short::tags(file, &mut lent.tags)),
+        ("short_tags", _) => keep(hand::hand_short_tags(file, &mut lent.tags)),
+        ("short_pair", "ours") => keep(short::pair(short::tag(&tags, u), short::tag(&tags, v))),
+        ("short_pair", _) => keep(hand::hand_short_pair(short::tag(&tags, u), short::tag(&tags, v))),
         ("chain", "ours") => keep(chain(file, u, v, &mut lent.out)),
         ("chain", _) => keep(hand::hand_chain(file, u, v, &mut lent.out)),
         ("neighbours", "ours") => keep(neighbours(file, u, &mut lent.out)),
@@ -213,4 +222,5 @@ fn main() {
     }
     println!("\nBuild at 2,048 windows over build at 1,024: {}.", growth.join(", "));
     println!("Boost Graph's search over a pair call at 2,048 windows (0: not there): {}.", library.join(", "));
+    short::table();
 }

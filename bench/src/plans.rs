@@ -7,11 +7,17 @@ pub enum Shape {
     Dense,
     /// Each window overlaps few others, and there are many components.
     Sparse,
-    /// Each window overlaps the next two: one component, long chains.
+    /// Each window overlaps the next two: one component, long chains. No end falls.
     Staircase,
+    /// The offsets and the ends of a dense or a sparse plan, with the ends in rising order: as many pairs overlap, and no end falls.
+    EvenDense,
+    EvenSparse,
 }
 
 pub const SHAPES: [Shape; 3] = [Shape::Dense, Shape::Sparse, Shape::Staircase];
+
+/// Those of which there are short tags.
+pub const EVEN_SHAPES: [Shape; 3] = [Shape::EvenDense, Shape::EvenSparse, Shape::Staircase];
 
 impl Shape {
     pub fn name(self) -> &'static str {
@@ -19,6 +25,8 @@ impl Shape {
             Shape::Dense => "dense",
             Shape::Sparse => "sparse",
             Shape::Staircase => "staircase",
+            Shape::EvenDense => "even-dense",
+            Shape::EvenSparse => "even-sparse",
         }
     }
 }
@@ -47,12 +55,20 @@ impl Random {
     }
 }
 
+fn evened(windows: Vec<(u32, u32)>) -> Vec<(u32, u32)> {
+    let mut ends: Vec<u32> = windows.iter().map(|window| window.0 + window.1).collect();
+    ends.sort();
+    windows.iter().zip(ends).map(|(window, end)| (window.0, end - window.0)).collect()
+}
+
 fn windows_of(shape: Shape, n: usize, random: &mut Random) -> Vec<(u32, u32)> {
     let size = n as u32;
     let mut windows: Vec<(u32, u32)> = match shape {
         Shape::Dense => (0..n).map(|_| (random.below(size), 1 + random.below(size))).collect(),
         Shape::Sparse => (0..n).map(|_| (random.below(10 * size), 1 + random.below(20))).collect(),
         Shape::Staircase => (0..size).map(|i| (10 * i, 21 + random.below(9))).collect(),
+        Shape::EvenDense => return evened(windows_of(Shape::Dense, n, random)),
+        Shape::EvenSparse => return evened(windows_of(Shape::Sparse, n, random)),
     };
     windows.sort_by_key(|window| window.0);
     windows
@@ -83,5 +99,11 @@ pub fn tags_of(case: &Case) -> Vec<u8> {
     let mut tags = vec![0; 10 * case.n];
     let [a, b, c, d, e] = &mut tables;
     hand::hand_build(&case.files[0], [a, b, c, d, e], &mut tags).unwrap();
+    tags
+}
+
+pub fn short_tags_of(case: &Case) -> Vec<u8> {
+    let mut tags = vec![0; 8 * case.n];
+    hand::hand_short_tags(&case.files[0], &mut tags).unwrap();
     tags
 }

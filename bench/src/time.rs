@@ -39,13 +39,14 @@ fn middle(mut rounds: Vec<f64>) -> f64 {
     rounds[rounds.len() / 2]
 }
 
-/// Nanoseconds of each of two, measured turn by turn, so that what disturbs one disturbs the other.
-pub fn medians(first: &mut dyn FnMut(), second: &mut dyn FnMut()) -> [f64; 2] {
-    let repeats = [repeats_of(first), repeats_of(second)];
-    let mut rounds = [Vec::new(), Vec::new()];
+/// Nanoseconds of each of some, measured turn by turn, so that what disturbs one disturbs the others.
+pub fn medians<const N: usize>(mut runs: [&mut dyn FnMut(); N]) -> [f64; N] {
+    let repeats = runs.each_mut().map(|run| repeats_of(run));
+    let mut rounds = [(); N].map(|_| Vec::new());
     for _ in 0..ROUNDS {
-        rounds[0].push(once(first, repeats[0]));
-        rounds[1].push(once(second, repeats[1]));
+        for ((run, &repeats), times) in runs.iter_mut().zip(&repeats).zip(&mut rounds) {
+            times.push(once(run, repeats));
+        }
     }
     rounds.map(middle)
 }
