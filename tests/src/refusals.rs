@@ -244,7 +244,7 @@ fn tags(form: Form) -> Vec<(u16, Vec<u8>)> {
 }
 
 /// Each two, in both orders: the first tag's refusal, then the second's, and then 11 and 12. From a tag file of the two it is
-/// the same.
+/// the same, and a tag that is not named is not asked.
 pub fn two_tags(comparison: &mut Comparison, form: Form) {
     let tags = tags(form);
     for (first_number, first) in &tags {
@@ -258,7 +258,9 @@ pub fn two_tags(comparison: &mut Comparison, form: Form) {
                 (&number, _) => both.are(what, Answer::Refused(refusal(number, 0, 0)), &()),
             }
             if first.len() == form.bytes() && second.len() == form.bytes() {
-                comparison.pair_at(form, &[&first[..], second].concat(), 0, 1).are(what, both.oracle, &());
+                let file = [&first[..], second].concat();
+                comparison.pair_at(form, &file, 0, 1).are(what, both.oracle, &());
+                comparison.pair_at(form, &file, 0, 0).are(what, comparison.pair(form, first, first).oracle, &());
             }
         }
     }
