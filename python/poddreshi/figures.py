@@ -15,6 +15,8 @@ NUMBER_LIMIT = 2**32 - 1  # the greatest offset or length that a plan file can h
 TAG = struct.Struct("<5H")
 TAG_LENGTH = TAG.size
 TAG_FIELDS = ("plan number", "component", "depth", "rank", "rank of the last")
+SHORT_TAG = struct.Struct("<4H")  # all but the rank of the last
+SHORT_TAG_LENGTH = SHORT_TAG.size
 FIELD_LIMIT = 2047  # the greatest number in a tag's field after the plan number
 POSITION_LIMIT = 2**64 - 1  # the greatest position that the library can be asked about
 

@@ -17,6 +17,7 @@ WORDS: Dict[int, str] = {
     10: "{the_tag} has {fields}; each is at most {FIELD_LIMIT:,}",
     11: "the first tag is of plan {plan} and the second of plan {other_plan}",
     12: "the two tags have component {component} and rank {rank} alike and differ elsewhere, so they are not both of one plan",
+    13: "window {position} of {the_plan} ends at {end:,} and the one before it at {end_before:,}; short tags need ends that never fall",
 }
 
 
@@ -91,7 +92,8 @@ def _plan_facts(asked: Asked, input: int, position: int) -> dict:
         offset, length = figures.WINDOW.unpack_from(file, start)
         facts.update(offset=offset, length=length, end=offset + length)
         if position:
-            facts["before"] = figures.WINDOW.unpack_from(file, start - figures.WINDOW_LENGTH)[0]
+            before, length_before = figures.WINDOW.unpack_from(file, start - figures.WINDOW_LENGTH)
+            facts.update(before=before, end_before=before + length_before)
     return facts
 
 

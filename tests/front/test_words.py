@@ -19,10 +19,11 @@ ASKED = {
     6: "Is the offset at least that of the window before?",
     7: "Is the position below the number of windows or tags?",
     8: "Does each table hold what is to be written?",
-    9: "Has the tag {TAG_LENGTH} bytes, the tag file a multiple of {TAG_LENGTH}?",
+    9: "Has the tag {TAG_LENGTH} bytes (a short tag {SHORT_TAG_LENGTH}), the tag file a multiple of that?",
     10: "Is each field after the plan number at most {FIELD_LIMIT:,}?",
     11: "Have both tags one plan number?",
     12: "Do two tags of equal component and equal rank agree in all fields?",
+    13: "Is the end at least that of the window before?",
 }
 
 

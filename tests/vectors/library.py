@@ -8,13 +8,13 @@ WORD, TABLE = ctypes.c_size_t, {list: ctypes.c_uint16, bytearray: ctypes.c_uint8
 
 
 class Library:
-    """read, parents and lasts are no calls of the C interface; pair_at and tags are where the library has them."""
+    """read, short_read, parents and lasts are no calls of the C interface."""
 
     def __init__(self, path):
         self.library = ctypes.CDLL(path)
 
     def has(self, call):
-        return call not in ("read", "parents", "lasts") and hasattr(self.library, "poddreshi_" + call)
+        return hasattr(self.library, "poddreshi_" + call)
 
     def ask(self, call, *arguments):
         """Bytes and tables are passed with their lengths behind them. A table that is lent is copied back, all of it."""
@@ -47,9 +47,18 @@ class Library:
     def tags(self, file, tags):
         return tuple(self.ask("tags", file, tags)[1])
 
-    def write(self, *arguments):
+    def short_tags(self, file, tags):
+        return tuple(self.ask("short_tags", file, tags)[1])
+
+    def write_numbers(self, call, *arguments):
         *numbers, out = arguments
-        self.ask("write", *map(ctypes.c_uint16, numbers), out)
+        self.ask(call, *map(ctypes.c_uint16, numbers), out)
+
+    def write(self, *arguments):
+        self.write_numbers("write", *arguments)
+
+    def short_write(self, *arguments):
+        self.write_numbers("short_write", *arguments)
 
     def lookup(self, tags, at):
         offset = WORD()
@@ -65,6 +74,12 @@ class Library:
 
     def pair_at(self, tags, first, second):
         return self.count("pair_at", tags, WORD(first), WORD(second))
+
+    def short_pair(self, first, second):
+        return self.count("short_pair", first, second)
+
+    def short_pair_at(self, tags, first, second):
+        return self.count("short_pair_at", tags, WORD(first), WORD(second))
 
     def chain(self, file, first, second, out):
         return self.count("chain", file, WORD(first), WORD(second), out)

@@ -9,6 +9,7 @@ from collections import namedtuple
 Plan = namedtuple("Plan", "number offsets lengths ends")
 Tree = namedtuple("Tree", "parents components depths ranks last_ranks")
 Tag = namedtuple("Tag", "plan component depth rank last")
+ShortTag = namedtuple("ShortTag", "plan component depth rank")
 
 
 class Refused(Exception):
@@ -66,6 +67,9 @@ class Reader:
 
     def question_12(self, first, second):
         return first == second or (first.component, first.rank) != (second.component, second.rank)
+
+    def question_13(self, end, before):
+        return end >= before
 
     def ask(self, yes, number, input=0, position=0):
         if not yes:
@@ -229,6 +233,68 @@ class Reader:
     def part(self, tags, at):
         return bytes(tags[10 * at : 10 * at + 10])
 
+    # Short tags. What is asked of them and how they answer stands apart from tags, so that a mistake in one is none in the other.
+
+    def short_question_9(self, tag):
+        return len(tag) == 8
+
+    def short_question_9_of_file(self, tags):
+        return len(tags) % 8 == 0
+
+    def short_question_10(self, tag):
+        return all(field <= 2047 for field in (tag.component, tag.depth, tag.rank))
+
+    def short_question_12(self, first, second):
+        return first == second or (first.component, first.rank) != (second.component, second.rank)
+
+    def ask_even(self, plan):
+        for v in range(1, len(plan.ends)):
+            self.ask(self.question_13(plan.ends[v], plan.ends[v - 1]), 13, 0, v)
+
+    def short_bytes(self, tag):
+        return b"".join(map(self.two_bytes, tag))
+
+    def short_fields(self, tag):
+        return ShortTag(*(self.number(tag[at : at + 2]) for at in range(0, 8, 2)))
+
+    def short_tag_file(self, plan, tree):
+        rows = zip(tree.components, tree.depths, tree.ranks)
+        return b"".join(self.short_bytes(ShortTag(plan.number, *row)) for row in rows)
+
+    def short_read_tag(self, tag, input):
+        self.ask(self.short_question_9(tag), 9, input)
+        fields = self.short_fields(tag)
+        self.ask(self.short_question_10(fields), 10, input)
+        return fields
+
+    def short_read_two(self, first, second):
+        return self.short_read_tag(first, 0), self.short_read_tag(second, 1)
+
+    def short_ask_two(self, first, second):
+        self.ask(self.question_11(first, second), 11, 1)
+        self.ask(self.short_question_12(first, second), 12, 1)
+
+    def short_least(self, first, second):
+        if first == second:
+            return 0
+        if first.component != second.component:
+            return None
+        u, v = self.short_in_order(first, second)
+        return self.short_rule(u, v, v.depth - u.depth)
+
+    def short_in_order(self, first, second):
+        return sorted((first, second), key=lambda tag: (tag.depth, tag.rank))
+
+    def short_rule(self, u, v, d):
+        return d + 1 if u.rank < v.rank else d
+
+    def short_ask_position(self, tags, at, input):
+        self.ask(self.short_question_9_of_file(tags), 9)
+        self.ask(self.question_7(at, len(tags) // 8), 7, input)
+
+    def short_part(self, tags, at):
+        return bytes(tags[8 * at : 8 * at + 8])
+
     # Chains.
 
     def handovers_to(self, plan, target):
@@ -358,3 +424,30 @@ class Reader:
             return False
         pairs = ((u, v) for v in range(windows) for u in range(v))
         return all(self.overlap(first, u, v) == self.overlap(second, u, v) for u, v in pairs)
+
+    def short_tags(self, file, tags):
+        plan = self.read_plan(file)
+        self.ask_even(plan)
+        self.ask_room(tags, 8 * len(plan.offsets))
+        tree = self.tree(plan)
+        self.fill(tags, self.short_tag_file(plan, tree))
+        return plan.number, len(plan.offsets), self.components(tree)
+
+    def short_read(self, tag):
+        return tuple(self.short_read_tag(tag, 0))
+
+    def short_write(self, plan, component, depth, rank, out):
+        tag = ShortTag(plan, component, depth, rank)
+        self.ask_room(out, 8)
+        self.ask(self.short_question_10(tag), 10)
+        self.fill(out, self.short_bytes(tag))
+
+    def short_pair(self, first, second):
+        first, second = self.short_read_two(first, second)
+        self.short_ask_two(first, second)
+        return self.short_least(first, second)
+
+    def short_pair_at(self, tags, first, second):
+        self.short_ask_position(tags, first, 0)
+        self.short_ask_position(tags, second, 1)
+        return self.short_pair(self.short_part(tags, first), self.short_part(tags, second))

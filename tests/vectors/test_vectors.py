@@ -8,18 +8,21 @@ express (where PODDRESHI_LIBRARY names it), and docs/FORMAT.md agrees with the v
 """
 import os
 import re
+import struct
 import sys
 import unittest
 from collections import Counter, defaultdict
 
 from library import Library
 from reader import Reader
-from vectors import CALLS, DOCS, FOLDER, Malformed, all_vectors, parse_file, parse_vector, passes, said, without_comment, words_of
-from wrong_readers import WRONG
+from vectors import CALLS, DOCS, FOLDER, Malformed, all_vectors, bytes_of_rows, parse_file, parse_vector, passes, said
+from vectors import without_comment, words_of
+from wrong_short_readers import WRONG
 
 VECTORS = sorted(all_vectors(), key=lambda one: 10**9 if one.where.startswith("long.txt") else len(one.text))  # The quick first.
 DOCUMENT = (DOCS / "FORMAT.md").read_text(encoding="utf-8")
-QUESTIONS = range(1, 13)
+QUESTIONS = range(1, 14)
+NOT_IN_C = ["parents", "lasts", "read", "short_read"]
 SLIPS = (
     "pair 00 00",
     "pair 00 : no_chain",
@@ -56,6 +59,15 @@ def table(*headings):
 def blocks():
     """The lines of the fenced blocks of the document."""
     return [line for block in DOCUMENT.split("```")[1::2] for line in block.strip("\n").split("\n")]
+
+
+def octets(*counts):
+    """The bytes that the fenced blocks show, so many lines of them for each plan file and each tag file."""
+    lines = [line for line in blocks() if re.match(r"[0-9a-f]{2} ", line)]
+    shown = [bytes.fromhex(re.match(r"([0-9a-f]{2} )+", line + " ").group()) for line in lines]
+    assert len(shown) == sum(counts), len(shown)
+    starts = [sum(counts[:at]) for at in range(len(counts))]
+    return [b"".join(shown[start : start + count]) for start, count in zip(starts, counts)]
 
 
 class Files(unittest.TestCase):
@@ -95,8 +107,8 @@ class Readers(unittest.TestCase):
         expressible = [vector for vector in VECTORS if library.has(vector.call)]
         for vector in expressible:
             self.assertTrue(passes(library, vector), failure(library, vector))
-        lacking = ", ".join(call for call in CALLS if not library.has(call))
-        print(f"vectors: the library passes {len(expressible)}; not in its C interface: {lacking}")
+        self.assertEqual([call for call in CALLS if not library.has(call)], NOT_IN_C)
+        print(f"vectors: the library passes {len(expressible)}; not in its C interface: {', '.join(NOT_IN_C)}")
 
 
 class Document(unittest.TestCase):
@@ -107,9 +119,7 @@ class Document(unittest.TestCase):
         self.assertEqual([text for text in shown if text not in stored], [])
 
     def test_plan_12_is_the_one_of_the_vectors(self):
-        rows = [line for line in blocks() if re.match(r"[0-9a-f]{2} ", line)]
-        octets = [bytes.fromhex(re.match(r"([0-9a-f]{2} )+", line + " ").group()) for line in rows]
-        file, tags = b"".join(octets[:8]), b"".join(octets[8:])
+        file, tags, *_ = octets(8, 7, 9, 8)
         rows = table("position", "parent", "component", "depth", "rank", "last", "rank of the last")
         numbers = [list(map(int, row)) for row in rows]
         positions, parents, components, depths, ranks, lasts, last_ranks = map(list, zip(*numbers))
@@ -122,6 +132,18 @@ class Document(unittest.TestCase):
         ]
         stored = [(vector.call, vector.answer) for vector in VECTORS if vector.arguments[0] == file]
         self.assertEqual([one for one in due if one not in stored], [])
+
+    def test_plan_14_is_the_one_of_the_vectors(self):
+        *_, file, tags = octets(8, 7, 9, 8)
+        rows = table("position", "end", "parent", "component", "depth", "rank")
+        positions, ends, parents, components, depths, ranks = map(list, zip(*(map(int, row) for row in rows)))
+        self.assertEqual(positions, list(range(8)))
+        pairs = struct.iter_unpack("<II", file[4:])
+        self.assertEqual(ends, [offset + length for offset, length in pairs])
+        self.assertEqual(tags, bytes_of_rows((14, *row) for row in zip(components, depths, ranks)))
+        stored = [(vector.call, vector.answer) for vector in VECTORS if vector.arguments[0] == file]
+        self.assertIn(("short_tags", ("built", 14, 8, 2, tags)), stored)
+        self.assertIn(("parents", ("filled", parents)), stored)
 
     def test_the_revision_is_the_last_of_its_table(self):
         rows = table("revision", "date", "what changed", "a reader made to the revision before")

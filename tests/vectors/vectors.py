@@ -26,6 +26,11 @@ CALLS = {
     "neighbours": ("bytes number entries", {"neighbours": "list"}),
     "reach": ("bytes number", {"reach": "number"}),
     "same": ("bytes bytes", {"same": "", "different": ""}),
+    "short_tags": ("bytes octets", {"built": "number number number bytes"}),
+    "short_read": ("bytes", {"tag": "number number number number"}),
+    "short_write": ("number number number number octets", {"written": "bytes"}),
+    "short_pair": ("bytes bytes", PAIR),
+    "short_pair_at": ("bytes number number", PAIR),
 }
 for _, _answers in CALLS.values():
     _answers["refused"] = "number number number"
@@ -67,13 +72,18 @@ def list_of(word):
 
 
 def long_bytes_of(word):
-    """Parts with + between them: bytes, bytes*COUNT, or COUNT windows as windows:COUNT:STEP:LENGTH."""
+    """Parts with + between them: bytes, bytes*COUNT, COUNT windows as windows:COUNT:STEP:LENGTH, or rows:COLUMN:COLUMN and on."""
     whole = b""
     for part in word.split("+"):
         if part.startswith("windows:"):
             count, step, length = map(number_of, part.split(":")[1:])
             for v in range(count):
                 whole += (v * step).to_bytes(4, "little") + length.to_bytes(4, "little")
+        elif part.startswith("rows:"):
+            columns = [long_list_of(column) for column in part.split(":")[1:]]
+            if len(set(map(len, columns))) != 1:
+                raise Malformed("columns of different lengths")
+            whole += bytes_of_rows(zip(*columns))
         elif "*" in part:
             piece, count = part.split("*")
             whole += bytes_of(piece) * number_of(count)
@@ -109,10 +119,14 @@ def words_to_values(words, kinds, forms):
     return tuple(forms[kind](word) for word, kind in zip(words, kinds))
 
 
+def bytes_of_rows(rows):
+    """Two bytes for each number, row by row."""
+    return b"".join(number.to_bytes(2, "little") for row in rows for number in row)
+
+
 def tags_of_rows(values):
     """The tag file of a plan number and build's tables, for the word `rows`."""
-    rows = zip(*values[4:8])
-    return b"".join(number.to_bytes(2, "little") for row in rows for number in (values[0], *row))
+    return bytes_of_rows((values[0], *row) for row in zip(*values[4:8]))
 
 
 # Lines.
@@ -173,10 +187,12 @@ def lend(kind, room):
 
 def answer_of(call, result, lent):
     """The answer, and how much of each lent table was written."""
+    tag_length = 8 if call.startswith("short") else 10
+    call = call.replace("short_", "")
     if call == "validate":
         return ("accepted", *result), []
     if call in ("build", "tags"):
-        rooms = [result[1]] * (len(lent) - 1) + [10 * result[1]]
+        rooms = [result[1]] * (len(lent) - 1) + [tag_length * result[1]]
         return ("built", *result, *(table[:room] for table, room in zip(lent, rooms))), rooms
     if call in ("parents", "lasts", "neighbours", "chain") and result is not None:
         name = {"parents": "filled", "lasts": "filled"}.get(call, call)
@@ -184,7 +200,7 @@ def answer_of(call, result, lent):
     if call == "read":
         return ("tag", *result), []
     if call == "write":
-        return ("written", lent[0][:10]), [10]
+        return ("written", lent[0][:tag_length]), [tag_length]
     if call == "same":
         return ("same" if result else "different",), []
     if result is None:
