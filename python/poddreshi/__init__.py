@@ -8,18 +8,26 @@
     >>> print(poddreshi.pair(tags[40:50], tags[50:60]))
     1 handover
 
+Where no window of a plan ends before the one ahead of it, short tags of eight bytes are enough.
+
+    >>> even = pathlib.Path("examples/even.plan").read_bytes()
+    >>> poddreshi.short_pair_at(poddreshi.short_tags(even).tags, 1, 4)
+    Handovers(count=2)
+
 A plan, a tag and a tag file are bytes, a bytearray or a memoryview. A refusal is raised as Refused. The library is loaded at
 the first call, from the built checkout or the installed tree that the package stands in, or from PODDRESHI_LIBRARY.
 """
 from ._version import __version__
-from .calls import Accepted, Chain, Handovers, Neighbours, Reach, Sameness, Tag, Tags, Tree
+from .calls import Accepted, Chain, Handovers, Neighbours, Reach, Sameness, ShortTag, Tag, Tags, Tree
 from .calls import build, chain, lookup, neighbours, pair, pair_at, reach, read, same, tags, validate, write
+from .calls import short_lookup, short_pair, short_pair_at, short_read, short_tags, short_write
 from .library import LibraryMissing
 from .plans import Window, pack, windows_of
 from .refusals import Refused
 
 __all__ = [
-    *("Accepted", "Chain", "Handovers", "LibraryMissing", "Neighbours", "Reach", "Refused", "Sameness", "Tag", "Tags", "Tree"),
-    *("Window", "__version__", "build", "chain", "lookup", "neighbours", "pack", "pair", "pair_at", "reach", "read", "same"),
-    *("tags", "validate", "windows_of", "write"),
+    *("Accepted", "Chain", "Handovers", "LibraryMissing", "Neighbours", "Reach", "Refused", "Sameness", "ShortTag", "Tag"),
+    *("Tags", "Tree", "Window", "__version__", "build", "chain", "lookup", "neighbours", "pack", "pair", "pair_at", "reach"),
+    *("read", "same", "short_lookup", "short_pair", "short_pair_at", "short_read", "short_tags", "short_write", "tags"),
+    *("validate", "windows_of", "write"),
 ]

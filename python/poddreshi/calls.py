@@ -1,13 +1,15 @@
 """The calls of the library, each with an answer that has a text form. A refusal is raised as Refused.
 
-A plan, a tag and a tag file are bytes, a bytearray or a memoryview. Everything is decided in the library.
+A plan, a tag and a tag file are bytes, a bytearray or a memoryview. Everything is decided in the library. What long and short
+tags share is written once, for tags of a form that is given; the calls whose names begin with short_ give the short one.
 """
-from typing import NamedTuple, Optional, Tuple
+from typing import NamedTuple, Optional, Tuple, Union
 
 from . import library
-from .figures import PLAN_NUMBER_LIMIT, TAG, TAG_FIELDS, TAG_LENGTH, WINDOWS_LIMIT
+from .figures import PLAN_NUMBER_LIMIT, TAG_LENGTH, WINDOWS_LIMIT
 from .library import Kind, lend, position, room, table
 from .refusals import Asked, refusal
+from .tagforms import LONG, SHORT, ShortTag, Tag, TagForm
 from .wording import counted
 
 
@@ -98,23 +100,12 @@ class Sameness(NamedTuple):
         return "same" if self.same else "different"
 
 
-class Tag(NamedTuple):
-    plan: int
-    component: int
-    depth: int
-    rank: int
-    last_rank: int
-
-    def __str__(self) -> str:
-        return ", ".join(f"{name} {field}" for name, field in zip(("plan", *TAG_FIELDS[1:]), self))
-
-
 def _ask(name: str, asked: Asked, *arguments) -> Tuple[Kind, list]:
     kind, numbers = library.ask(name, *arguments)
     if kind is not Kind.REFUSED:
         return kind, numbers
     if asked.tag_file is not None and numbers[0] > 9:  # a refusal of the tags that stand at the positions
-        asked = Asked(tags=[lookup(asked.tag_file, at) for at in asked.positions])
+        asked = Asked(tags=[asked.form.at(asked.tag_file, at) for at in asked.positions], form=asked.form)
     raise refusal(*numbers, asked)
 
 
@@ -132,11 +123,11 @@ def build(file) -> Tree:
     return Tree(plan, n, components, *(tuple(each[0][:n]) for each in tables), bytes(tags[0][: TAG_LENGTH * n]))
 
 
-def tags(file) -> Tags:
+def tags(file, form: TagForm = LONG) -> Tags:
     """The tag file of a plan."""
-    out = room(TAG_LENGTH * WINDOWS_LIMIT)
-    _, (plan, n, components) = _ask("tags", Asked(plans=[file]), *lend(file), *out)
-    return Tags(plan, n, components, bytes(out[0][: TAG_LENGTH * n]))
+    out = room(form.length * WINDOWS_LIMIT)
+    _, (plan, n, components) = _ask(form.prefix + "tags", Asked(plans=[file]), *lend(file), *out)
+    return Tags(plan, n, components, bytes(out[0][: form.length * n]))
 
 
 def reach(file, at: int) -> Reach:
@@ -169,15 +160,17 @@ def _handovers(kind: Kind, numbers: list) -> Handovers:
     return Handovers(numbers[0] if kind is Kind.HANDOVERS else None)
 
 
-def pair(first, second) -> Handovers:
+def pair(first, second, form: TagForm = LONG) -> Handovers:
     """The least number of handovers between the windows of two tags, from the tags alone."""
-    return _handovers(*_ask("pair", Asked(tags=[first, second]), *lend(first), *lend(second)))
+    asked = Asked(tags=[first, second], form=form)
+    return _handovers(*_ask(form.prefix + "pair", asked, *lend(first), *lend(second)))
 
 
-def pair_at(tags, first: int, second: int) -> Handovers:
+def pair_at(tags, first: int, second: int, form: TagForm = LONG) -> Handovers:
     """The same for the tags at two positions of a tag file."""
-    asked = Asked(tag_file=tags, positions=[first, second])
-    return _handovers(*_ask("pair_at", asked, *lend(tags), position(first), position(second)))
+    file, length = lend(tags)
+    asked = Asked(tag_file=file, positions=[first, second], form=form)
+    return _handovers(*_ask(form.prefix + "pair_at", asked, file, length, position(first), position(second)))
 
 
 def lookup(tags, at: int) -> bytes:
@@ -187,17 +180,54 @@ def lookup(tags, at: int) -> bytes:
     return file[offset.value : offset.value + TAG_LENGTH]
 
 
-def read(tag) -> Tag:
-    """The five numbers of a tag. A tag beside itself is refused just where the tag is."""
-    _ask("pair", Asked(tags=[tag]), *lend(tag), *lend(tag))
-    return Tag(*TAG.unpack(tag))
+def read(tag, form: TagForm = LONG) -> Union[Tag, ShortTag]:
+    """The numbers of a tag. A tag beside itself is refused just where the tag is."""
+    lent, length = lend(tag)
+    _ask(form.prefix + "pair", Asked(tags=[lent], form=form), lent, length, lent, length)
+    return form.answer(*form.layout.unpack(lent))
+
+
+def _write(form: TagForm, *numbers: int) -> bytes:
+    if not all(0 <= number <= PLAN_NUMBER_LIMIT for number in numbers):
+        raise ValueError("a tag's numbers have two bytes")
+    out = room(form.length)
+    _ask(form.prefix + "write", Asked(tags=[form.layout.pack(*numbers)], form=form), *numbers, *out)
+    return bytes(out[0])
 
 
 def write(plan: int, component: int, depth: int, rank: int, last_rank: int) -> bytes:
     """The ten bytes of a tag."""
-    numbers = (plan, component, depth, rank, last_rank)
-    if not all(0 <= number <= PLAN_NUMBER_LIMIT for number in numbers):
-        raise ValueError("a tag's numbers have two bytes")
-    out = room(TAG_LENGTH)
-    _ask("write", Asked(tags=[TAG.pack(*numbers)]), *numbers, *out)
-    return bytes(out[0])
+    return _write(LONG, plan, component, depth, rank, last_rank)
+
+
+def short_tags(file) -> Tags:
+    """The short tag file of an even plan: one in which no window ends before the one ahead of it."""
+    return tags(file, SHORT)
+
+
+def short_pair(first, second) -> Handovers:
+    """The least number of handovers between the windows of two short tags."""
+    return pair(first, second, SHORT)
+
+
+def short_pair_at(tags, first: int, second: int) -> Handovers:
+    """The same for the short tags at two positions of a short tag file."""
+    return pair_at(tags, first, second, SHORT)
+
+
+def short_lookup(tags, at: int) -> bytes:
+    """The short tag at a position of a short tag file. It is asked about beside itself, so it is one that can be read."""
+    file, length = lend(tags)
+    asked = Asked(tag_file=file, positions=[at], form=SHORT)
+    _ask("short_pair_at", asked, file, length, position(at), position(at))
+    return SHORT.at(file, at)
+
+
+def short_read(tag) -> ShortTag:
+    """The four numbers of a short tag."""
+    return read(tag, SHORT)
+
+
+def short_write(plan: int, component: int, depth: int, rank: int) -> bytes:
+    """The eight bytes of a short tag."""
+    return _write(SHORT, plan, component, depth, rank)

@@ -17,6 +17,7 @@ TAG_LENGTH = TAG.size
 TAG_FIELDS = ("plan number", "component", "depth", "rank", "rank of the last")
 SHORT_TAG = struct.Struct("<4H")  # all but the rank of the last
 SHORT_TAG_LENGTH = SHORT_TAG.size
+SHORT_TAG_FIELDS = TAG_FIELDS[:4]
 FIELD_LIMIT = 2047  # the greatest number in a tag's field after the plan number
 POSITION_LIMIT = 2**64 - 1  # the greatest position that the library can be asked about
 

@@ -24,6 +24,10 @@ CALLS = {
     "pair_at": _READ + 2 * _AT,
     "lookup": _READ + _AT + (ctypes.POINTER(ctypes.c_size_t),),
     "write": 5 * _FIELD + _BYTES,
+    "short_tags": _READ + _BYTES,
+    "short_pair": 2 * _READ,
+    "short_pair_at": _READ + 2 * _AT,
+    "short_write": 4 * _FIELD + _BYTES,
 }
 
 

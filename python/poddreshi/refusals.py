@@ -2,6 +2,7 @@
 from typing import Dict, NamedTuple, Optional, Sequence
 
 from . import figures
+from .tagforms import LONG, TagForm
 from .wording import counted, ordinal
 
 WORDS: Dict[int, str] = {
@@ -28,6 +29,7 @@ class Asked(NamedTuple):
     tags: Sequence[bytes] = ()
     tag_file: Optional[bytes] = None
     positions: Sequence[int] = ()
+    form: TagForm = LONG  # of the tags
 
 
 class Refused(Exception):
@@ -57,9 +59,9 @@ def _facts(input: int, position: int, asked: Asked) -> dict:
     if asked.plans:
         facts.update(_plan_facts(asked, input, position))
     if asked.tag_file is not None:
-        facts.update(_tag_file_facts(asked.tag_file))
+        facts.update(_tag_file_facts(asked.tag_file, asked.form))
     if input < len(asked.tags):
-        facts.update(_tag_facts(asked.tags, input))
+        facts.update(_tag_facts(asked.tags, input, asked.form))
     if input < len(asked.positions):
         facts["at"] = f"{asked.positions[input]:,}"
     return facts
@@ -97,24 +99,24 @@ def _plan_facts(asked: Asked, input: int, position: int) -> dict:
     return facts
 
 
-def _tag_file_facts(tags: bytes) -> dict:
+def _tag_file_facts(tags: bytes, form: TagForm) -> dict:
     return {
         "the_tag": "the tag file",
         "bytes": counted(len(tags), "byte"),
-        "wanted": f"a tag file has a multiple of {figures.TAG_LENGTH}",
-        "holder": _holder("the tag file", len(tags) // figures.TAG_LENGTH, "tag"),
+        "wanted": f"a {form.thing} file has a multiple of {form.length}",
+        "holder": _holder("the tag file", len(tags) // form.length, form.thing),
     }
 
 
-def _tag_facts(tags: Sequence[bytes], input: int) -> dict:
+def _tag_facts(tags: Sequence[bytes], input: int, form: TagForm) -> dict:
     facts = {
         "the_tag": _which("tag", tags, input),
-        "bytes": _bytes(tags[input], figures.TAG_LENGTH),
-        "wanted": f"a tag has {figures.TAG_LENGTH}",
+        "bytes": _bytes(tags[input], LONG.length),  # of either form, so that one is seen to be given for the other
+        "wanted": f"a {form.thing} has {form.length}",
     }
-    read = [figures.TAG.unpack(tag) if len(tag) == figures.TAG_LENGTH else None for tag in tags]
+    read = [form.layout.unpack(tag) if len(tag) == form.length else None for tag in tags]
     if read[input] is not None:
-        fields = dict(zip(figures.TAG_FIELDS, read[input]))
+        fields = dict(zip(form.fields, read[input]))
         above = [f"{name} {field:,}" for name, field in fields.items() if field > figures.FIELD_LIMIT and name != "plan number"]
         facts.update(fields=" and ".join(above), component=fields["component"], rank=fields["rank"])
     if len(read) == 2 and None not in read:

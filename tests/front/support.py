@@ -27,6 +27,11 @@ TAGS_12 = bytes.fromhex(
     "0c000000000005000400" "0c000000010000000300" "0c000000010003000200" "0c000000010004000400"
     "0c000000020002000100" "0c000000030001000100" "0c000100000000000000"
 )
+EVEN = (EXAMPLES / "even.plan").read_bytes()  # plan 14
+SHORT_TAGS = bytes.fromhex(
+    "0e00000000000500" "0e00000001000200" "0e00000001000400" "0e00000002000100"
+    "0e00000002000300" "0e00000003000000" "0e00010000000100" "0e00010001000000"
+)
 LISTING_12 = "12 7 2\n0 0 0 0 5 4\n1 0 0 1 0 3\n2 0 0 1 3 2\n3 0 0 1 4 4\n4 2 0 2 2 1\n5 4 0 3 1 1\n6 6 1 0 0 0\n"
 
 
@@ -45,6 +50,15 @@ def random_windows(generator: random.Random, count: int, span: int = 5000, longe
 def line_plan(count: int = 2048) -> bytes:
     """Each window overlaps the one before and the one behind alone."""
     return plan(*((2 * v, 3) for v in range(count)))
+
+
+def refusal(call, *arguments):
+    """The three numbers of a call's refusal, or None where it answers."""
+    try:
+        call(*arguments)
+    except poddreshi.Refused as no:
+        return no.number, no.input, no.position
+    return None
 
 
 def obey_modes() -> None:

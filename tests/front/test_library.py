@@ -10,18 +10,10 @@ import tempfile
 import unittest
 from ctypes.util import find_library
 
-from support import PLAN_12, PYTHON, ROOT, TAGS_12, plan
+from support import PLAN_12, PYTHON, ROOT, TAGS_12, plan, refusal
 
 import poddreshi
-from poddreshi import library
-
-
-def refusal(call, *arguments):
-    try:
-        call(*arguments)
-    except poddreshi.Refused as no:
-        return no.number, no.input, no.position
-    return None
+from poddreshi import figures, library
 
 
 class Answers(unittest.TestCase):
@@ -72,6 +64,7 @@ class Answers(unittest.TestCase):
             self.assertEqual(poddreshi.pair(kind(TAGS_12[40:50]), kind(TAGS_12[50:60])).count, 1)
             self.assertEqual(poddreshi.lookup(kind(TAGS_12), 4), TAGS_12[40:50])
             self.assertEqual(refusal(poddreshi.validate, kind(b"")), (1, 0, 0))
+            self.assertEqual(poddreshi.read(kind(TAGS_12[40:50])), (12, 0, 2, 2, 1))
         lent = bytearray(PLAN_12)
         poddreshi.validate(lent)
         lent.append(0)  # it is not held after the call
@@ -125,6 +118,12 @@ class Interface(unittest.TestCase):
         kinds = {kind.name: str(kind.value) for kind in library.Kind}
         self.assertEqual({name: found[name] for name in kinds}, kinds)
 
+    def test_every_figure_of_the_header(self):
+        found = dict(re.findall(r"PODDRESHI_([A-Z_]+) = (\d+)", self.HEADER))
+        stated = {name: int(figure) for name, figure in found.items() if name not in library.Kind.__members__}
+        names = ("TAG_LENGTH", "SHORT_TAG_LENGTH", "FIELD_LIMIT", "WINDOWS_LIMIT")
+        self.assertEqual(stated, {**{name: getattr(figures, name) for name in names}, "FILE_LIMIT": figures.PLAN_LIMIT})
+
     def test_public_names(self):
         for name in poddreshi.__all__:
             self.assertTrue(hasattr(poddreshi, name), name)
@@ -160,7 +159,7 @@ class Interface(unittest.TestCase):
         before = os.getcwd()
         os.chdir(ROOT)
         self.addCleanup(os.chdir, before)
-        self.assertEqual(doctest.testmod(poddreshi), (0, 5))
+        self.assertEqual(doctest.testmod(poddreshi), (0, 7))
 
 
 if __name__ == "__main__":
