@@ -22,5 +22,5 @@ FIELD_LIMIT = 2047  # the greatest number in a tag's field after the plan number
 POSITION_LIMIT = 2**64 - 1  # the greatest position that the library can be asked about
 
 # What the command reads of an input. A tag file of a plan has 2,048 tags at most, but one may be put together of several.
-TAGS_LIMIT = 65_535 * TAG_LENGTH
+TAGS_LIMIT = 65_535
 TEXT_LIMIT = 2**20

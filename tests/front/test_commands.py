@@ -239,6 +239,7 @@ class Commands(Case):
                 *(("tags", "-"), ("chain", "-", 0, 1), ("draw", "-"), ("text", "-", "--json"), ("same", self.plan, "-")),
                 *(("count", "-", 0, "--all"), ("explain", "-"), ("plan", 7, "-", "--sort"), ("chains", self.plan, "-", "--html")),
                 *(("chain", self.plan, 0, 1, "--names", "-"), ("chain", "-", 0, 1, "--names", names), ("list", "-", "--csv")),
+                *(("tags", "-", "--short"), ("count", "-", 0, "--all", "--short"), ("explain", "-", "--short")),
             ):
                 done = self.run_front(*words, stdin=bytes(altered))
                 self.assertIn(done.returncode, (0, 1), (words, bytes(altered), done.stderr))

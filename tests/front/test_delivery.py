@@ -5,7 +5,7 @@ import subprocess
 import sys
 import unittest
 
-from support import EXAMPLES, LISTING_12, PLAN_12, TAGS_12, Case
+from support import EXAMPLES, LISTING_12, PLAN_12, SHORT_TAGS, TAGS_12, Case
 
 import poddreshi
 
@@ -41,6 +41,7 @@ class Installed(Case):
     def test_it_runs_with_python_alone(self):
         self.assertEqual(self.there("list", self.plan).decode(), LISTING_12)
         self.assertEqual(self.there("tags", self.plan), TAGS_12)
+        self.assertEqual(self.there("tags", "--short", EXAMPLES / "even.plan"), SHORT_TAGS)
         self.assertEqual(self.there("chain", self.plan, 1, 5), b"5 4 2 1\n")
         self.assertIn(b"<svg", self.there("draw", self.plan, 1, 5))
         self.assertEqual(self.there("--version").decode(), f"poddreshi {poddreshi.__version__}\n")

@@ -1,28 +1,87 @@
 """tags, tag, explain, count: tag files, tags, and the answer from two of them."""
+import contextlib
 from pathlib import Path
-from typing import Optional
+from typing import Iterator, Optional, Sequence
 
 from .. import calls, files
 from ..commandline import OUTPUT, PLAN, command, exit_code, forms, number, once, option, word
 from ..failures import Failure, Mistake
-from ..figures import PLAN_LIMIT, TAG_FIELDS, TAG_LENGTH, TAGS_LIMIT
+from ..figures import PLAN_LIMIT, TAGS_LIMIT
 from ..refusals import Refused
 from ..replies import Reply, aligned
+from ..tagforms import LONG, SHORT, TagForm
+from ..wording import counted
+
+_SHORT = option(
+    "--short",
+    dest="tag_form",
+    action="store_const",
+    const=SHORT,
+    default=LONG,
+    help="short tags, eight bytes each, of a plan in which no window ends before the one ahead of it",
+)
+_ADVICE = {LONG: "leave out --short", SHORT: "add --short"}
 
 
-def _tag_file(name: str) -> bytes:
-    return files.read_whole(name, TAGS_LIMIT, "tag file")
+def _tag_file(name: str, form: TagForm) -> bytes:
+    return files.read_whole(name, TAGS_LIMIT * form.length, f"{form.thing} file")
+
+
+def _one_tag(name: str) -> bytes:
+    """So much that a tag of the other form is seen to be one."""
+    return files.read(name, LONG.length)
+
+
+def _hint(form: TagForm, inputs: Sequence[bytes], at_fault: int) -> str:
+    """What an input that was refused may be, judged by its length: nothing in a tag says of which form it is."""
+    other = LONG if form is SHORT else SHORT
+    length = len(inputs[at_fault])
+    if not length or length % other.length:
+        return ""
+    if any(len(each) == form.length for each in inputs):
+        return " (one may be a short tag and the other not: a pair takes two of one form)"
+    return f" ({counted(length, 'byte')} may be {counted(length // other.length, other.thing)}: {_ADVICE[other]})"
+
+
+@contextlib.contextmanager
+def _hinting(form: TagForm, *inputs: bytes) -> Iterator[None]:
+    """Adds the hint to a refusal of two tags, or of a tag or a tag file."""
+    try:
+        yield
+    except Refused as no:
+        hint = _hint(form, inputs, min(no.input, len(inputs) - 1))  # input 1 may be the second position in one file
+        raise Refused(no.number, no.input, no.position, no.words + hint) from None
+
+
+def _lookup(tags: bytes, at: int, form: TagForm) -> bytes:
+    return calls.short_lookup(tags, at) if form is SHORT else calls.lookup(tags, at)
+
+
+def _pair_at(tags: bytes, first: int, second: int, form: TagForm) -> calls.Handovers:
+    with _hinting(form, tags):
+        return calls.pair_at(tags, first, second, form)
 
 
 @command(
     "tags",
     "the tag file of a plan, ten bytes for each window",
-    [PLAN, option("--into", metavar="DIR", help="a file of ten bytes for each window, 0000.tag and on, in a new folder"), OUTPUT],
-    ["poddreshi tags examples/plan-12.plan -o plan-12.tags", "poddreshi tags examples/plan-12.plan --into cabinets"],
-    "The folder of --into is new or empty, so that no cabinet is left with the tag of an older plan.",
+    [
+        *(PLAN, _SHORT),
+        option("--into", metavar="DIR", help="a file for each window's tag, 0000.tag and on, in a new folder"),
+        OUTPUT,
+    ],
+    [
+        "poddreshi tags examples/plan-12.plan -o plan-12.tags",
+        "poddreshi tags examples/plan-12.plan --into cabinets",
+        "poddreshi tags --short examples/even.plan -o even.tags",
+        "poddreshi tags --short examples/even.plan --into small-cabinets",
+    ],
+    "The folder of --into is new or empty, so that no cabinet is left with the tag of an older plan. With --short it is eight "
+    "bytes for each window. Nothing in a tag says of which form it is: the other commands take --short for short tags alone.",
 )
 def _tags(args) -> Reply:
-    made = calls.tags(files.read(args.plan, PLAN_LIMIT))
+    form = args.tag_form
+    made = calls.tags(files.read(args.plan, PLAN_LIMIT), form)
     if args.into is None:
         return Reply(content=made.tags)
     if args.output is not None:
@@ -30,41 +89,48 @@ def _tags(args) -> Reply:
     try:
         with files.new_folder(Path(args.into)) as folder:
             for position in range(made.windows):
-                files.replace(folder / f"{position:04}.tag", calls.lookup(made.tags, position))
+                files.replace(folder / f"{position:04}.tag", _lookup(made.tags, position, form))
     except OSError as error:
         raise Failure.of(args.into, error) from None
-    return Reply(f"{made}: a tag for each in {args.into}")
+    return Reply(f"{made}: a {form.thing} for each in {args.into}")
 
 
 @command(
     "tag",
     "one tag of a tag file, ten bytes",
-    [word("tags", "a tag file"), word("position", "a window's position in the plan"), OUTPUT],
-    ["poddreshi tag plan-12.tags 4 -o 4.tag"],
+    [word("tags", "a tag file"), word("position", "a window's position in the plan"), _SHORT, OUTPUT],
+    ["poddreshi tag plan-12.tags 4 -o 4.tag", "poddreshi tag --short even.tags 4 -o small-4.tag"],
 )
 def _tag(args) -> Reply:
-    at = number(args.position)
-    return Reply(content=calls.lookup(_tag_file(args.tags), at))
+    at, form = number(args.position), args.tag_form
+    tags = _tag_file(args.tags, form)
+    with _hinting(form, tags):
+        return Reply(content=_lookup(tags, at, form))
 
 
 @command(
     "explain",
-    "the five numbers of a tag",
+    "the numbers of a tag",
     [
         word("tag", "a tag, or a tag file where a position follows"),
         word("position", "a position in the tag file", nargs="?"),
-        forms(),
+        *(_SHORT, forms()),
     ],
-    ["poddreshi explain 4.tag", "poddreshi explain plan-12.tags 4"],
+    [
+        "poddreshi explain 4.tag",
+        "poddreshi explain plan-12.tags 4",
+        "poddreshi explain --short small-4.tag",
+        "poddreshi explain --short even.tags 4",
+    ],
 )
 def _explain(args) -> Reply:
-    if args.position is None:
-        tag = files.read(args.tag, TAG_LENGTH)
-    else:
-        tag = calls.lookup(_tag_file(args.tag), number(args.position))
-    fields = calls.read(tag)
-    text = aligned([(name, str(field)) for name, field in zip(TAG_FIELDS, fields)], right=(1,))
-    return Reply(text, fields._fields, [fields], fields._asdict())
+    form = args.tag_form
+    given = _one_tag(args.tag) if args.position is None else _tag_file(args.tag, form)
+    with _hinting(form, given):
+        tag = given if args.position is None else _lookup(given, number(args.position), form)
+        numbers = calls.read(tag, form)
+    text = aligned([(name, str(field)) for name, field in zip(form.fields, numbers)], right=(1,))
+    return Reply(text, numbers._fields, [numbers], numbers._asdict())
 
 
 @command(
@@ -75,26 +141,32 @@ def _explain(args) -> Reply:
         word("first", "a position, or the second of two tags"),
         word("second", "a position", nargs="?"),
         option("--all", action="store_true", help="between one position and every position of the tag file"),
-        *(exit_code("no chain"), forms()),
+        *(_SHORT, exit_code("no chain"), forms()),
     ],
     [
         "poddreshi count cabinets/0004.tag cabinets/0005.tag",
         "poddreshi count plan-12.tags 1 5",
         "poddreshi count plan-12.tags 1 --all --csv",
+        "poddreshi count --short small-cabinets/0004.tag small-cabinets/0005.tag",
+        "poddreshi count --short even.tags 1 5",
+        "poddreshi count --short even.tags 1 --all",
     ],
+    "Both tags are of one form, and --short says that they are short: a file does not tell.",
     usage="\n       ".join(f"%(prog)s [options] {form}" for form in ("TAG TAG", "TAGS FIRST SECOND", "TAGS FIRST --all")),
 )
 def _count(args) -> Reply:
+    form = args.tag_form
     if args.all:
         if args.second is not None:
             raise Mistake("count takes a tag file and one position with --all")
-        return _count_all(_tag_file(args.tags), number(args.first))
+        return _count_all(_tag_file(args.tags, form), number(args.first), form)
     if args.second is not None:
         first, second = number(args.first), number(args.second)
-        return _counted(calls.pair_at(_tag_file(args.tags), first, second), first, second)
+        return _counted(_pair_at(_tag_file(args.tags, form), first, second, form), first, second)
     once(args.tags, args.first)
-    first, second = files.read(args.tags, TAG_LENGTH), files.read(args.first, TAG_LENGTH)
-    return _counted(calls.pair(first, second))
+    two = [_one_tag(name) for name in (args.tags, args.first)]
+    with _hinting(form, *two):
+        return _counted(calls.pair(*two, form))
 
 
 def _counted(answer: calls.Handovers, first: Optional[int] = None, second: Optional[int] = None) -> Reply:
@@ -104,13 +176,14 @@ def _counted(answer: calls.Handovers, first: Optional[int] = None, second: Optio
     return Reply(str(answer), tuple(data), [row], data, otherwise=answer.count is None)
 
 
-def _count_all(tags: bytes, first: int) -> Reply:
+def _count_all(tags: bytes, first: int, form: TagForm) -> Reply:
     """One position beside every other; a tag that is refused spoils no other row."""
-    calls.lookup(tags, first)
+    with _hinting(form, tags):
+        _lookup(tags, first, form)
     rows, shown, data, faults = [], [], [], []
-    for second in range(len(tags) // TAG_LENGTH):
+    for second in range(len(tags) // form.length):
         try:
-            answer = calls.pair_at(tags, first, second)
+            answer = _pair_at(tags, first, second, form)
             words, row = str(answer), {"second": second, "handovers": answer.count}
         except Refused as no:
             words, row = str(no), {"second": second, "refused": no.number}
