@@ -83,7 +83,7 @@ def _holder(holder: str, count: int, thing: str) -> str:
 
 def _plan_facts(asked: Asked, input: int, position: int) -> dict:
     input = min(input, len(asked.plans) - 1)  # where the second of two positions is at fault there is one plan
-    file = asked.plans[input]
+    file = bytes(asked.plans[input])  # a view may lie in pieces
     facts = {"the_plan": _which("plan", asked.plans, input), "bytes": _bytes(file, figures.PLAN_LIMIT)}
     if len(file) >= figures.HEADER_LENGTH:
         windows = figures.HEADER.unpack_from(file)[1]
@@ -114,7 +114,7 @@ def _tag_facts(tags: Sequence[bytes], input: int, form: TagForm) -> dict:
         "bytes": _bytes(tags[input], LONG.length),  # of either form, so that one is seen to be given for the other
         "wanted": f"a {form.thing} has {form.length}",
     }
-    read = [form.layout.unpack(tag) if len(tag) == form.length else None for tag in tags]
+    read = [form.layout.unpack(bytes(tag)) if len(tag) == form.length else None for tag in tags]
     if read[input] is not None:
         fields = dict(zip(form.fields, read[input]))
         above = [f"{name} {field:,}" for name, field in fields.items() if field > figures.FIELD_LIMIT and name != "plan number"]

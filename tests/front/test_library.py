@@ -64,6 +64,8 @@ class Answers(unittest.TestCase):
             self.assertEqual(poddreshi.pair(kind(TAGS_12[40:50]), kind(TAGS_12[50:60])).count, 1)
             self.assertEqual(poddreshi.lookup(kind(TAGS_12), 4), TAGS_12[40:50])
             self.assertEqual(refusal(poddreshi.validate, kind(b"")), (1, 0, 0))
+            self.assertEqual(refusal(poddreshi.validate, kind(plan((5, 5), (4, 5)))), (6, 0, 1))
+            self.assertEqual(refusal(poddreshi.pair, kind(TAGS_12[:10]), kind(b"\x0d" + TAGS_12[1:10])), (11, 1, 0))
             self.assertEqual(poddreshi.read(kind(TAGS_12[40:50])), (12, 0, 2, 2, 1))
         lent = bytearray(PLAN_12)
         poddreshi.validate(lent)
