@@ -35,7 +35,7 @@
 #define PODDRESHI_H
 
 /* The version of the library that this header belongs to. */
-#define PODDRESHI_VERSION "1.0.1"
+#define PODDRESHI_VERSION "1.1.0"
 
 #include <stddef.h>
 #include <stdint.h>
