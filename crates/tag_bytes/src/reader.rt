@@ -89,7 +89,7 @@ impl Tag {
     }
 
     // The short tag of the same window.
-    pub fn short(self) -> ShortTag
+    pub(crate) fn short(self) -> ShortTag
         ensures { λ r. ⌜ r ≡ shortOf self ⌝ }
     {
         ShortTag {
