@@ -1,10 +1,10 @@
-// Paper 01's cases that are not among those to be proved, and some beside them: a line of standard input for each, which is printed
+// The papers' cases that are not among those to be proved, and some beside them: a line of standard input for each, which is printed
 // again with the answers of the library's calls behind it, as they cross into C. A line that is no case is printed as it is.
 //   file BYTES WINDOWS OFFSET LENGTH OFFSET LENGTH
-//       a file of so many bytes, with so many windows named, and the first two windows; its build, and the chain between positions 0
-//       and 1 with its table
+//       a file of so many bytes, with so many windows named, and the first two windows; its build, its short tags, and the chain
+//       between positions 0 and 1 with its table
 //   pair FIRST SECOND
-//       two positions of plan 12; their tags' pair, the build, and the chain with its table
+//       two positions of plan 12; their tags' pair, the build, the short tags, and the chain with its table
 //   window POSITION
 //       one position of plan 12; its neighbours with their table, and its reach
 // An answer is its kind and three numbers. 0: refused; 2: built; 3: reach; 4: chain; 5: no chain; 6: neighbours; 9: handovers.

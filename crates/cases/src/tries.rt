@@ -11,16 +11,18 @@ use poddreshi::poddreshi_chain;
 use poddreshi::poddreshi_neighbours;
 use poddreshi::poddreshi_pair_at;
 use poddreshi::poddreshi_reach;
+use poddreshi::poddreshi_short_tags;
 use poddreshi::poddreshi_tags;
 use tag_bytes::Tag;
 
 // One byte more than any plan, so that a file that is too long is among the cases.
 const BUFFER_LENGTH: usize = HEADER_LENGTH + WINDOW_LENGTH * GREATEST_COUNT + 1;
 
-// The build of a file and the chain between two positions in it.
+// The build of a file, its short tags, and the chain between two positions in it.
 fn try_plan(file: &[u8], first: usize, second: usize) {
     let mut tags = [0; Tag::LENGTH * GREATEST_COUNT];
     print_answer(poddreshi_tags(file, &mut tags));
+    print_answer(poddreshi_short_tags(file, &mut tags));
     let mut out = [9; 5];
     print_answer(poddreshi_chain(file, first, second, &mut out));
     print_table(out);
