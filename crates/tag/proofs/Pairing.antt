@@ -124,6 +124,18 @@ module _ (rule : Numbers → Numbers → ℕ) (u v : Numbers) where
       rw (ne-eqb _ _ other) (⊎-elim (λ t. rw t (⊎-elim (λ s. rw s (⊎-elim (λ r. rw r) (λ r. rw r) (truth (eqb (u .depth) (v .depth))))) (λ s. rw s)
       (truth (eqb (u .component) (v .component))))) (λ t. rw t) (truth (eqb (u .plan) (v .plan))))
 
+  -- So they have one depth; and tags that agree in every field are equal.
+  pub unequal-depth : (u .depth ≡ v .depth → ⊥) → equal u v ≡ false
+  unfolding equal
+  unequal-depth other =
+      rw (ne-eqb _ _ other) (⊎-elim (λ t. rw t (⊎-elim (λ s. rw s) (λ s. rw s) (truth (eqb (u .component) (v .component))))) (λ t. rw t)
+      (truth (eqb (u .plan) (v .plan))))
+
+  pub equal-fields : u .plan ≡ v .plan → u .component ≡ v .component → u .depth ≡ v .depth → u .rank ≡ v .rank → u .last ≡ v .last →
+      equal u v ≡ true
+  unfolding equal
+  equal-fields p c d r l = rw (eq-eqb _ _ p, eq-eqb _ _ c, eq-eqb _ _ d, eq-eqb _ _ r, eq-eqb _ _ l)
+
   module _ (one : u .plan ≡ v .plan) where
     -- "different components no chain": question 12 is answered "yes" there.
     pub compared-components : (u .component ≡ v .component → ⊥) → NoChain ≡ comparedBy rule u v

@@ -6,12 +6,12 @@ use tag_bytes::TagRead;
 use tag_bytes::lookup;
 ghost use mathlib.Core.Path.{_≡_};
 ghost use mathlib.Core.Bool.{true};
-ghost use Prim.Native.Nat.{ℕ, _≤_};
-ghost use Rattle.interval_graph.specs.Numbers.{Numbers, comesFirst};
+ghost use Prim.Native.Nat.{_≤_};
+ghost use Rattle.interval_graph.specs.Numbers.{comesFirst};
 ghost use Rattle.interval_graph.specs.Numbers as rule;
 ghost use Rattle.refusals.specs.Question.{askedOf};
 ghost use Rattle.tag_bytes.specs.Fields.{numbers, withinLimit, fieldLimit};
-ghost use Rattle.tag.specs.Pairing.{comparedBy, comparedOf, pairAnswerOf, placeQuestions, pairAtAnswerOf};
+ghost use Rattle.tag.specs.Pairing.{comparedOf, pairAnswerOf, placeQuestions, pairAtAnswerOf};
 
 pub enum PairAnswer {
     Handovers(u16),
@@ -39,7 +39,7 @@ fn same(u: Tag, v: Tag) -> bool
 }
 
 // Whether u is the tag with smaller depth, or smaller rank at equal depth.
-pub(crate) fn comes_first(u: Tag, v: Tag) -> bool
+fn comes_first(u: Tag, v: Tag) -> bool
     ensures { λ r. ⌜ r ≡ comesFirst (numbers u) (numbers v) ⌝ }
 {
     u.depth < v.depth || u.depth == v.depth && u.rank < v.rank
@@ -64,13 +64,13 @@ fn between(u: Tag, v: Tag) -> u16
     levels + 1
 }
 
-// The answer of two tags of one plan and component that have one rank, by whatever rule. In a component a rank belongs to one
-// window (question 12), and a window is 0 handovers from itself.
-pub(crate) fn one_window(a: Tag, b: Tag) -> PairAnswer
+// The answer of two tags of one plan and component that have one rank. In a component a rank belongs to one window (question 12),
+// and a window is 0 handovers from itself.
+fn one_window(a: Tag, b: Tag) -> PairAnswer
     requires { ⌜ a .plan ≡ b .plan ⌝ }
     requires { ⌜ a .component ≡ b .component ⌝ }
     requires { ⌜ a .rank ≡ b .rank ⌝ }
-    ensures { λ r. ⌜ ((rule : Numbers → Numbers → ℕ) → r ≡ comparedBy rule (numbers a) (numbers b)) ⌝ }
+    ensures { λ r. ⌜ r ≡ comparedOf (numbers a) (numbers b) ⌝ }
 {
     if !same(a, b) {
         return PairAnswer::Refused(Refusal::by(12).from(1));

@@ -1,27 +1,31 @@
 // The answer from two short tags, and from two positions of a file of them: as `pairs`, with eight bytes a tag and the shorter rule.
 use crate::pairs::PairAnswer;
-use crate::pairs::comes_first;
-use crate::pairs::one_window;
 use refusals::Asked;
 use refusals::Refusal;
 use tag_bytes::ShortRead;
 use tag_bytes::ShortTag;
-use tag_bytes::Tag;
 ghost use mathlib.Core.Path.{_≡_};
 ghost use mathlib.Core.Bool.{true};
 ghost use Prim.Native.Nat.{_+_, _*_, _≤_};
 ghost use lib.ListN.{length};
-ghost use Rattle.interval_graph.specs.Numbers.{shortBetween};
+ghost use Rattle.interval_graph.specs.Numbers.{comesFirst, shortBetween};
 ghost use Rattle.refusals.specs.Question.{askedOf};
-ghost use Rattle.tag_bytes.specs.Fields.{numbers, withinLimit, fieldLimit, shortLength};
+ghost use Rattle.tag_bytes.specs.Fields.{withinLimit, fieldLimit, shortLength, shortNumbers};
 ghost use Rattle.tag_bytes.specs.TagFile.{partOf};
 ghost use Rattle.tag.specs.Pairing.{comparedBy, shortPairAnswerOf, shortPlaceQuestions, shortPairAtAnswerOf};
 
+// Whether u is the short tag with smaller depth, or smaller rank at equal depth.
+fn short_first(u: ShortTag, v: ShortTag) -> bool
+    ensures { λ r. ⌜ r ≡ comesFirst (shortNumbers u) (shortNumbers v) ⌝ }
+{
+    u.depth < v.depth || u.depth == v.depth && u.rank < v.rank
+}
+
 // The count for two windows of one component of an even plan, u the one that comes first.
-fn short_between(u: Tag, v: Tag) -> u16
+fn short_between(u: ShortTag, v: ShortTag) -> u16
     requires { ⌜ u .depth ≤ v .depth ⌝ }
     requires { ⌜ v .depth ≤ fieldLimit ⌝ }
-    ensures { λ r. ⌜ r ≡ shortBetween (numbers u) (numbers v) ⌝ }
+    ensures { λ r. ⌜ r ≡ shortBetween (shortNumbers u) (shortNumbers v) ⌝ }
 {
     let levels = v.depth - u.depth;
     if u.rank < v.rank {
@@ -30,11 +34,11 @@ fn short_between(u: Tag, v: Tag) -> u16
     levels
 }
 
-// Questions 11 and 12, then the rule, as `compare` of long tags.
-fn short_compare(a: Tag, b: Tag) -> PairAnswer
-    requires { ⌜ withinLimit (numbers a) ≡ true ⌝ }
-    requires { ⌜ withinLimit (numbers b) ≡ true ⌝ }
-    ensures { λ r. ⌜ r ≡ comparedBy shortBetween (numbers a) (numbers b) ⌝ }
+// Questions 11 and 12, then the rule. Of tags of one plan, component and rank 12 asks whether their depths agree; all others pass it.
+fn short_compare(a: ShortTag, b: ShortTag) -> PairAnswer
+    requires { ⌜ withinLimit (shortNumbers a) ≡ true ⌝ }
+    requires { ⌜ withinLimit (shortNumbers b) ≡ true ⌝ }
+    ensures { λ r. ⌜ r ≡ comparedBy shortBetween (shortNumbers a) (shortNumbers b) ⌝ }
 {
     if a.plan != b.plan {
         return PairAnswer::Refused(Refusal::by(11).from(1));
@@ -43,9 +47,12 @@ fn short_compare(a: Tag, b: Tag) -> PairAnswer
         return PairAnswer::NoChain;
     }
     if a.rank == b.rank {
-        return one_window(a, b);
+        if a.depth != b.depth {
+            return PairAnswer::Refused(Refusal::by(12).from(1));
+        }
+        return PairAnswer::Handovers(0);
     }
-    if comes_first(a, b) {
+    if short_first(a, b) {
         return PairAnswer::Handovers(short_between(a, b));
     }
     PairAnswer::Handovers(short_between(b, a))
@@ -63,7 +70,7 @@ pub fn short_pair(first: &[u8], second: &[u8]) -> PairAnswer
     let ShortRead::Valid(b) = second_read else {
         return PairAnswer::Refused(ShortTag::refusal(second_read, 1));
     };
-    short_compare(a.with_last(0), b.with_last(0))
+    short_compare(a, b)
 }
 
 // Question 9 of a file of short tags, and 7 of two positions in it.

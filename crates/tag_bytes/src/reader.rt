@@ -119,7 +119,7 @@ impl ShortTag {
     pub const FIELD_LIMIT: u16 = Tag::FIELD_LIMIT;
 
     // The tag with these numbers and the rank of a last.
-    pub fn with_last(self, last: u16) -> Tag
+    pub(crate) fn with_last(self, last: u16) -> Tag
         ensures { λ r. ⌜ r ≡ withLast self last ⌝ }
     {
         Tag {

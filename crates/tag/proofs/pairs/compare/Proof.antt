@@ -29,7 +29,7 @@ one-window-requires : tie.Need-one-window-requires
 one-window-requires c κs = let d = c .before .before .before in (d .before .before .before .if1 .left, (d .if2 .left, c .if3 .taken))
 
 returns-3 : tie.Need-returns-3
-returns-3 c = c .one-window .ensures between
+returns-3 c = c .one-window .ensures
 
 comes-first-requires : tie.Need-comes-first-requires
 comes-first-requires c κs = search needs

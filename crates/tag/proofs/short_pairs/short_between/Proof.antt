@@ -3,7 +3,7 @@
 use mathlib.Core.Path.{sym}
 use native.Mathlib.Omega.{arith}
 use Rattle.interval_graph.proofs.Outcome.{short-rising, short-falling}
-use Rattle.tag_bytes.specs.Fields.{numbers}
+use Rattle.tag_bytes.specs.Fields.{numbers, withLast, shortNumbers}
 use borrow.Author.Needs.{needs}
 use Rattle.tag.proofs.short_pairs.short_between.Statement.{statement}
 use Rattle.tag.proofs.short_pairs.short_between.Tie as tie
@@ -15,11 +15,11 @@ add-result : tie.Need-add-result
 add-result c = omega arith
 
 returns : tie.Need-returns
-unfolding numbers
+unfolding shortNumbers numbers withLast
 returns c = sym (short-rising _ _ (c .if1 .taken))
 
 returns-2 : tie.Need-returns-2
-unfolding numbers
+unfolding shortNumbers numbers withLast
 returns-2 c = sym (short-falling _ _ (c .if1 .left))
 
 pub short-between-spec : {M : Type 1} → statement M

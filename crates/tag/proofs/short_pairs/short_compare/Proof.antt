@@ -1,12 +1,14 @@
--- `tag::short_pairs::short_compare` meets its contract, as `compare` of long tags does.
+-- `tag::short_pairs::short_compare` meets its contract: question 11, question 12 where it can be answered "no", and then the cases
+-- of the rule.
 -- Assumes nothing.
-use mathlib.Core.Path.{sym, ap, _∙_}
+use mathlib.Core.Path.{refl, sym, ap, _∙_}
 use Rattle.interval_graph.specs.Numbers.{shortBetween}
 use Rattle.interval_graph.proofs.Outcome.{comesFirst-depth, comesFirst-not-depth}
 use Rattle.tag.specs.declared.pairs.PairAnswer.the-variants.{Handovers}
-use Rattle.tag_bytes.specs.Fields.{numbers}
+use Rattle.tag_bytes.specs.Fields.{numbers, withLast, shortNumbers}
 use Rattle.tag_bytes.proofs.Fields.{within-limit}
-use Rattle.tag.proofs.Pairing.{compared-11, compared-components, compared-first, compared-second}
+use Rattle.tag.proofs.Pairing.{compared-11, compared-12, compared-components, compared-equal, compared-first, compared-second}
+use Rattle.tag.proofs.Pairing.{unequal-depth, equal-fields}
 use borrow.Author.Needs.{needs}
 use Rattle.tag.proofs.short_pairs.short_compare.Statement.{statement}
 use Rattle.tag.proofs.short_pairs.short_compare.Tie as tie
@@ -18,51 +20,59 @@ from-requires : tie.Need-from-requires
 from-requires c κs = search needs
 
 returns : tie.Need-returns
-unfolding numbers
+unfolding shortNumbers numbers withLast
 returns c = rw (c .from .ensures, c .before .by .ensures) (compared-11 shortBetween _ _ (c .before .before .if1 .taken))
 
 returns-2 : tie.Need-returns-2
-unfolding numbers
+unfolding shortNumbers numbers withLast
 returns-2 c = compared-components shortBetween _ _ (c .before .before .before .if1 .left) (c .if2 .taken)
 
-one-window-requires : tie.Need-one-window-requires
-one-window-requires c κs = let d = c .before .before .before in (d .before .before .before .if1 .left, (d .if2 .left, c .if3 .taken))
+by-requires-2 : tie.Need-by-requires-2
+by-requires-2 c κs = search needs
+
+from-requires-2 : tie.Need-from-requires-2
+from-requires-2 c κs = search needs
 
 returns-3 : tie.Need-returns-3
-returns-3 c = c .one-window .ensures shortBetween
-
-comes-first-requires : tie.Need-comes-first-requires
-comes-first-requires c κs = search needs
-
-short-between-requires : tie.Need-short-between-requires
-unfolding numbers
-short-between-requires c κs = let d = c .before .before .before .before .before .before .before .before .before .before .before in
-    (comesFirst-depth _ _ (sym (c .before .comes-first .ensures) ∙ c .if4 .taken), within-limit _ (d .pre .1) .depth)
+unfolding shortNumbers numbers withLast
+returns-3 c = let f = c .before .before in let d = f .before .before .before in let e = d .before .before .before in
+    rw (c .from2 .ensures, c .before .by2 .ensures)
+    (compared-12 shortBetween _ _ (e .before .before .before .if1 .left) (e .if2 .left) (d .if3 .taken) (unequal-depth shortBetween _ _ (f .if4 .taken)))
 
 returns-4 : tie.Need-returns-4
-unfolding numbers
-returns-4 c = let f = c .before .before .before in
-    let d = f in
-    let e = d .before .before .before in
-    ap Handovers (c .short-between .ensures)
-    ∙ compared-first shortBetween _ _ (e .before .before .before .if1 .left) (e .if2 .left) (d .if3 .left)
-    (sym (c .before .before .comes-first .ensures) ∙ c .before .if4 .taken)
+unfolding shortNumbers numbers withLast
+returns-4 c = let d = c .before .before .before in let e = d .before .before .before in let one = e .before .before .before .if1 .left in
+    compared-equal shortBetween _ _ one (e .if2 .left) (d .if3 .taken)
+    (equal-fields shortBetween _ _ one (e .if2 .left) (c .if4 .left) (d .if3 .taken) refl)
 
-short-between-requires-2 : tie.Need-short-between-requires-2
-unfolding numbers
-short-between-requires-2 c κs = let d = c .before .before .before .before .before .before .before .before .before .before .before in
-    (comesFirst-not-depth _ _ (sym (c .before .comes-first .ensures) ∙ c .if4 .left), within-limit _ (d .pre .0) .depth)
+short-first-requires : tie.Need-short-first-requires
+short-first-requires c κs = search needs
+
+short-between-requires : tie.Need-short-between-requires
+unfolding shortNumbers numbers withLast
+short-between-requires c κs = let d = c .before .before .before .before .before .before .before .before .before .before .before in
+    (comesFirst-depth _ _ (sym (c .before .short-first .ensures) ∙ c .if5 .taken), within-limit _ (d .pre .1) .depth)
 
 returns-5 : tie.Need-returns-5
-unfolding numbers
-returns-5 c = let f = c .before .before .before in
-    let d = f in
-    let e = d .before .before .before in
+unfolding shortNumbers numbers withLast
+returns-5 c = let d = c .before .before .before in let e = d .before .before .before in
+    ap Handovers (c .short-between .ensures)
+    ∙ compared-first shortBetween _ _ (e .before .before .before .if1 .left) (e .if2 .left) (d .if3 .left)
+    (sym (c .before .before .short-first .ensures) ∙ c .before .if5 .taken)
+
+short-between-requires-2 : tie.Need-short-between-requires-2
+unfolding shortNumbers numbers withLast
+short-between-requires-2 c κs = let d = c .before .before .before .before .before .before .before .before .before .before .before in
+    (comesFirst-not-depth _ _ (sym (c .before .short-first .ensures) ∙ c .if5 .left), within-limit _ (d .pre .0) .depth)
+
+returns-6 : tie.Need-returns-6
+unfolding shortNumbers numbers withLast
+returns-6 c = let d = c .before .before .before in let e = d .before .before .before in
     ap Handovers (c .short-between2 .ensures)
     ∙ compared-second shortBetween _ _ (e .before .before .before .if1 .left) (e .if2 .left) (d .if3 .left)
-    (sym (c .before .before .comes-first .ensures) ∙ c .before .if4 .left)
+    (sym (c .before .before .short-first .ensures) ∙ c .before .if5 .left)
 
 pub short-compare-spec : {M : Type 1} → statement M
 short-compare-spec =
-    tie.close (tie.spec by-requires from-requires returns returns-2 one-window-requires returns-3 comes-first-requires short-between-requires
-    returns-4 short-between-requires-2 returns-5)
+    tie.close (tie.spec by-requires from-requires returns returns-2 by-requires-2 from-requires-2 returns-3 returns-4
+    short-first-requires short-between-requires returns-5 short-between-requires-2 returns-6)

@@ -1,11 +1,10 @@
--- `tag::short_pairs::short_pair` meets its contract: each tag is taken out of its reading in turn, and a reading that is refused is
--- the answer.
+-- `tag::short_pairs::short_pair` meets its contract: each tag is taken out of its reading in turn, and a reading that is refused is the
+-- answer.
 -- Assumes nothing.
 use mathlib.Core.Path.{_≡_, sym, ap, _∙_}
 use denote.Ref.{now}
 use Rattle.tag_bytes.specs.declared.reader.ShortRead.the-variants.{Valid}
 use Rattle.tag.specs.declared.pairs.PairAnswer.the-variants.{Refused}
-use Rattle.tag_bytes.specs.Fields.{shortNumbers}
 use Rattle.tag_bytes.specs.Reading.{shortReadAnswerOf, shortRefusalOf}
 use Rattle.tag_bytes.proofs.Reading.{short-valid-reads}
 use Rattle.tag.proofs.Pairing.{short-first-refused, short-second-refused, short-valid}
@@ -58,27 +57,14 @@ returns-2 c = let told = c .before .enum-told2 .given .1 in
     let d = c .before .before .before in
     ap Refused (rw told at (c .refusal2 .ensures)) ∙ sym (short-second-refused _ _ _ _ (first-valid (d .before)) (sym (d .read2 .ensures) ∙ told))
 
-with-last-requires : tie.Need-with-last-requires
-with-last-requires c κs = search needs
-
-with-last-requires-2 : tie.Need-with-last-requires-2
-with-last-requires-2 c κs = search needs
-
 short-compare-requires : tie.Need-short-compare-requires
-unfolding shortNumbers
-short-compare-requires c κs = let d = c .before .before in (
-  rw (c .before .with-last .ensures) (short-valid-reads _ _ (first-valid (d .before .before .before .before)) .within),
-  rw (c .with-last2 .ensures) (short-valid-reads _ _ (second-valid d) .within),
-)
+short-compare-requires c κs = (short-valid-reads _ _ (first-valid (c .before .before .before .before)) .within, short-valid-reads _ _ (second-valid c) .within)
 
 returns-3 : tie.Need-returns-3
-unfolding shortNumbers
-returns-3 c = let d = c .before .before .before in
-    rw (c .before .before .with-last .ensures, c .before .with-last2 .ensures) at (c .short-compare .ensures)
-    ∙ sym (short-valid _ _ _ _ (first-valid (d .before .before .before .before)) (second-valid d))
+returns-3 c = let d = c .before in
+    c .short-compare .ensures ∙ sym (short-valid _ _ _ _ (first-valid (d .before .before .before .before)) (second-valid d))
 
 pub short-pair-spec : {M : Type 1} → statement M
 short-pair-spec =
-    tie.close (tie.spec read-requires enum-known-first-read enum-told refusal-requires returns read-requires-2
-    enum-known-second-read enum-told-2 refusal-requires-2 returns-2 with-last-requires with-last-requires-2 short-compare-requires
-    returns-3)
+    tie.close (tie.spec read-requires enum-known-first-read enum-told refusal-requires returns read-requires-2 enum-known-second-read
+    enum-told-2 refusal-requires-2 returns-2 short-compare-requires returns-3)
