@@ -21,7 +21,8 @@ use Rattle.tag_bytes.specs.Reading.{readAnswerOf, shortReadAnswerOf}
 use Rattle.tag_bytes.specs.Writing.{writeAnswerOf, afterWrite, shortWriteAnswerOf, afterShortWrite}
 use Rattle.tag_bytes.specs.TagFile.{partOf, tagPart, lookupAnswerOf}
 use Rattle.tag_bytes.proofs.TagFile.{part-refused}
-use Rattle.tag.specs.Pairing.{answerOf, pairAnswerOf, pairAtAnswerOf, shortPairAnswerOf, shortPairAtAnswerOf}
+use Rattle.tag.specs.Pairing.{answerOf, pairAnswerOf, pairAtAnswerOf}
+use Rattle.short_tag.specs.ShortPairing.{shortPairAnswerOf, shortPairAtAnswerOf}
 use Rattle.numbering.specs.declared.answers.BuildAnswer.the-variants as BuildAnswer
 use Rattle.reaching.specs.declared.ReachAnswer.the-variants as ReachAnswer
 use Rattle.minutes.specs.declared.answers.TableAnswer.the-variants as TableAnswer
@@ -29,7 +30,7 @@ use Rattle.numbering.specs.Numbering.{numbersAnswerOf, afterBuild}
 use Rattle.tree.specs.Build.{buildAnswerOf, tagsAnswerOf, afterTags}
 use Rattle.minutes.specs.SingleTable.{tableAnswerOf, afterTable}
 use Rattle.minutes.specs.EvenTable.{evenTableAnswerOf}
-use Rattle.short_tags.specs.ShortTags.{shortTagsAnswerOf, afterShortTags}
+use Rattle.even_tags.specs.ShortTags.{shortTagsAnswerOf, afterShortTags}
 use Rattle.reaching.specs.Reach.{reachAnswerOf}
 use Rattle.path.specs.declared.answers.ChainAnswer.the-variants as ChainAnswer
 use Rattle.path.specs.declared.answers.NeighboursAnswer.the-variants as NeighboursAnswer

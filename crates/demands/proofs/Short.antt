@@ -26,12 +26,13 @@ use Rattle.plan.proofs.Even.{even-ends, ends-even, even-lasts}
 use Rattle.tag_bytes.specs.Fields.{shortLength}
 use Rattle.tag_bytes.proofs.TagFile.{length-shortTagFile, shortTagFile-part}
 use Rattle.tag_bytes.proofs.Writing.{shortBytes-read, within-short, short-reads-back, short-writes-back}
-use Rattle.tag.specs.Pairing.{agreeing, compareQuestions, answerOf, comparedBy, pairAnswerOf, shortPairAnswerOf}
+use Rattle.tag.specs.Pairing.{agreeing, compareQuestions, answerOf, comparedBy, pairAnswerOf}
+use Rattle.short_tag.specs.ShortPairing.{shortPairAnswerOf}
 use Rattle.tag.specs.declared.pairs.PairAnswer.the-variants as PairAnswer
-use Rattle.tag.proofs.Pairing.{pair-shortBytes, short-pair-symmetric, short-at-found}
+use Rattle.short_tag.proofs.ShortPairing.{pair-shortBytes, short-pair-symmetric, short-at-found}
 use Rattle.numbering.specs.declared.answers.BuildAnswer.the-variants as BuildAnswer
 use Rattle.numbering.specs.Tables.{componentCount, numbersAt}
-use Rattle.short_tags.specs.ShortTags.{shortTagsQuestions, shortTagsAnswerOf, afterShortTags}
+use Rattle.even_tags.specs.ShortTags.{shortTagsQuestions, shortTagsAnswerOf, afterShortTags}
 use Rattle.demands.specs.EndToEnd.{tagAt}
 use Rattle.demands.specs.Cases.{plan12}
 use Rattle.demands.specs.Short.{EndsRise, shortTagAt, ShortPairs, NeedsEven, ShortTags}

@@ -17,14 +17,14 @@ use Rattle.tag_bytes.specs.declared.reader.ShortRead.the-variants as ShortRead
 use Rattle.tag_bytes.specs.declared.writer.WriteAnswer.the-variants as WriteAnswer
 use Rattle.tag_bytes.specs.declared.tag_file.LookupAnswer.the-variants as LookupAnswer
 use Rattle.tag.specs.Pairing.{pairQuestions, pairAnswerOf, pairAtQuestions, pairAtAnswerOf}
-use Rattle.tag.specs.Pairing.{shortPairQuestions, shortPairAnswerOf, shortPairAtQuestions, shortPairAtAnswerOf}
+use Rattle.short_tag.specs.ShortPairing.{shortPairQuestions, shortPairAnswerOf, shortPairAtQuestions, shortPairAtAnswerOf}
 use Rattle.tag.specs.declared.pairs.PairAnswer.the-variants as PairAnswer
 use Rattle.minutes.specs.SingleTable.{tableQuestions, tableAnswerOf, afterTable}
 use Rattle.minutes.specs.EvenTable.{evenTableQuestions, evenTableAnswerOf}
 use Rattle.minutes.specs.declared.answers.TableAnswer.the-variants as TableAnswer
 use Rattle.numbering.specs.Numbering.{numbersAnswerOf, afterBuild}
 use Rattle.tree.specs.Build.{buildQuestions, buildAnswerOf, tagsQuestions, tagsAnswerOf, afterTags}
-use Rattle.short_tags.specs.ShortTags.{shortTagsQuestions, shortTagsAnswerOf, afterShortTags}
+use Rattle.even_tags.specs.ShortTags.{shortTagsQuestions, shortTagsAnswerOf, afterShortTags}
 use Rattle.numbering.specs.declared.answers.BuildAnswer.the-variants as BuildAnswer
 use Rattle.reaching.specs.Reach.{reachQuestions, reachAnswerOf}
 use Rattle.reaching.specs.declared.ReachAnswer.the-variants as ReachAnswer

@@ -10,10 +10,11 @@ use Rattle.tag_bytes.specs.{declared.reader.ShortTag.ShortTag, Fields.shortLeng
 use Rattle.tag_bytes.specs.{Reading.shortReadAnswerOf, Writing.shortWriteAnswerOf, Writing.afterShortWrite, TagFile.partOf, TagFile.shortTagFile}
 use Rattle.tag_bytes.specs.declared.reader.ShortRead.the-variants as ShortRead
 use Rattle.tag_bytes.specs.declared.writer.WriteAnswer.the-variants as WriteAnswer
-use Rattle.tag.specs.Pairing.{pairAnswerOf, shortPairAnswerOf, shortPairAtAnswerOf}
+use Rattle.tag.specs.Pairing.{pairAnswerOf}
+use Rattle.short_tag.specs.ShortPairing.{shortPairAnswerOf, shortPairAtAnswerOf}
 use Rattle.tag.specs.declared.pairs.PairAnswer.the-variants as PairAnswer
 use Rattle.numbering.specs.Tables.{numbersAt}
-use Rattle.short_tags.specs.ShortTags.{shortTagsAnswerOf, afterShortTags}
+use Rattle.even_tags.specs.ShortTags.{shortTagsAnswerOf, afterShortTags}
 use Rattle.demands.specs.EndToEnd.{tagAt}
 
 -- "ends never fall from one window to the next"

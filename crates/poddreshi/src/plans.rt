@@ -12,7 +12,7 @@ ghost use Rattle.minutes.specs.Tables.{parentOf};
 ghost use Rattle.numbering.specs.Tables.{componentOf, depthOf, rankOf, lastRankOf, numbersAt};
 ghost use Rattle.numbering.specs.Numbering.{afterBuild};
 ghost use Rattle.tree.specs.Build.{afterTags, tagsAnswerOf};
-ghost use Rattle.short_tags.specs.ShortTags.{shortTagsAnswerOf, afterShortTags};
+ghost use Rattle.even_tags.specs.ShortTags.{shortTagsAnswerOf, afterShortTags};
 ghost use Rattle.reaching.specs.Reach.{reachAnswerOf};
 ghost use Rattle.path.specs.Chain.{chainBetween, chainAnswerOf, afterChain};
 ghost use Rattle.path.specs.Neighbours.{neighboursOf, neighboursAnswerOf, afterNeighbours};
@@ -65,7 +65,7 @@ pub extern "C" fn poddreshi_short_tags(file: &[u8], tags: &mut [u8]) -> u64
     ensures { λ r. ⌜ r ≡ packedBuild (shortTagsAnswerOf (now (file .entry)) (length (now (tags .entry)))) ⌝ }
     ensures { λ _. ⌜ now (tags .exit) ≡ afterShortTags (shortTagsAnswerOf (now (file .entry)) (length (now (tags .entry)))) (numbersAt (now (file .entry))) (now (tags .entry)) ⌝ }
 {
-    pack_build(short_tags::short_tag_file(file, tags))
+    pack_build(even_tags::short_tag_file(file, tags))
 }
 
 // The reach of a position's component.

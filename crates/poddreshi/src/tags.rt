@@ -7,7 +7,8 @@ use tag::LookupAnswer;
 use tag::PairAnswer;
 use tag::Tag;
 ghost use mathlib.Core.Path.{_≡_};
-ghost use Rattle.tag.specs.Pairing.{pairAnswerOf, pairAtAnswerOf, shortPairAnswerOf, shortPairAtAnswerOf};
+ghost use Rattle.tag.specs.Pairing.{pairAnswerOf, pairAtAnswerOf};
+ghost use Rattle.short_tag.specs.ShortPairing.{shortPairAnswerOf, shortPairAtAnswerOf};
 ghost use Rattle.tag_bytes.specs.TagFile.{lookupAnswerOf};
 ghost use Rattle.tag_bytes.specs.Writing.{writeAnswerOf, afterWrite, shortWriteAnswerOf, afterShortWrite};
 ghost use Rattle.packing.specs.Packing.{packedPair, packedLookup, packedWrite};
@@ -69,7 +70,7 @@ pub extern "C" fn poddreshi_write(
 pub extern "C" fn poddreshi_short_pair(first: &[u8], second: &[u8]) -> u64
     ensures { λ r. ⌜ r ≡ packedPair (shortPairAnswerOf (now (first .entry)) (now (second .entry))) ⌝ }
 {
-    pack_pair(tag::short_pair(first, second))
+    pack_pair(short_tag::short_pair(first, second))
 }
 
 // The answer from the short tags at two positions of a file of them.
@@ -77,7 +78,7 @@ pub extern "C" fn poddreshi_short_pair(first: &[u8], second: &[u8]) -> u64
 pub extern "C" fn poddreshi_short_pair_at(tags: &[u8], first: usize, second: usize) -> u64
     ensures { λ r. ⌜ r ≡ packedPair (shortPairAtAnswerOf (now (tags .entry)) first second) ⌝ }
 {
-    pack_pair(tag::short_pair_at(tags, first, second))
+    pack_pair(short_tag::short_pair_at(tags, first, second))
 }
 
 // Fills the first eight bytes of `out` with a short tag.
@@ -92,5 +93,5 @@ pub extern "C" fn poddreshi_short_write(
     ensures { λ r. ⌜ r ≡ packedWrite (shortWriteAnswerOf (record { plan = plan; component = component; depth = depth; rank = rank; last = 0 }) (now (out .entry))) ⌝ }
     ensures { λ _. ⌜ now (out .exit) ≡ afterShortWrite (shortWriteAnswerOf (record { plan = plan; component = component; depth = depth; rank = rank; last = 0 }) (now (out .entry))) (record { plan = plan; component = component; depth = depth; rank = rank; last = 0 }) (now (out .entry)) ⌝ }
 {
-    pack_write(tag::short_write(plan, component, depth, rank, out))
+    pack_write(short_tag::short_write(plan, component, depth, rank, out))
 }

@@ -1,17 +1,17 @@
 -- Laws of the answer from two tags: by their readings, by the numbers of two that are read, in either order, for a tag with
 -- itself, and how large a count can be; and for two positions of a tag file.
--- Vocabulary: pair-*, compared-*, agreeing-*, places-*, short-*.
+-- Vocabulary: in-turn, pair-*, compared-*, agreeing-*, Places, at-*, places-*.
 -- Assumes nothing.
-use Prim.Native.Nat.{ℕ, _+_, _*_, _/_, _%_, _≤_, _<_}
+use Prim.Native.Nat.{ℕ, _/_, _%_, _≤_, _<_}
 use mathlib.Core.{Bool.true, Bool.false, Path._≡_, Path.refl, Path.sym, Path.ap, Path._∙_, Logic.⊎-elim, List.List, List._++_}
 use mathlib.Core.{List.List·Memᴰ·head, List.List·Memᴰ·tail}
 use native.Mathlib.Omega.{arith}
 use lib.ListN.{length}
-use borrow.Author.Tests.{eq-eqb, ne-eqb, eqb-true, ltb-true, lt-ltb}
+use borrow.Author.Tests.{eq-eqb, ne-eqb, eqb-true, ltb-true}
 use Rattle.sequences.proofs.Tests.{eqb-symmetric, truth}
-use Rattle.interval_graph.specs.Numbers.{Numbers, Outcome, apart, no-chain, equal, comesFirst, outcomeBy, between, outcome, short, shortBetween}
+use Rattle.interval_graph.specs.Numbers.{Numbers, Outcome, apart, no-chain, equal, comesFirst, outcomeBy, between, outcome}
 use Rattle.interval_graph.proofs.Outcome.{equal-refl, equal-symmetric, outcome-equal, outcome-components}
-use Rattle.interval_graph.proofs.Outcome.{outcome-first, outcome-second, outcome-symmetric, short-symmetric, outcome-most}
+use Rattle.interval_graph.proofs.Outcome.{outcome-first, outcome-second, outcome-symmetric, outcome-most}
 use Rattle.refusals.specs.declared.Refusal.{Refusal}
 use Rattle.refusals.specs.declared.Asked.{Asked}
 use Rattle.refusals.specs.declared.Asked.the-variants as asked
@@ -23,23 +23,18 @@ use Rattle.tag_bytes.specs.declared.reader.Tag.{Tag}
 use Rattle.tag_bytes.specs.declared.reader.TagRead.the-variants as read
 use Rattle.tag.specs.declared.pairs.PairAnswer.{PairAnswer}
 use Rattle.tag.specs.declared.pairs.PairAnswer.the-variants.{Handovers, NoChain, Refused}
-use Rattle.tag_bytes.specs.declared.reader.ShortTag.{ShortTag}
-use Rattle.tag_bytes.specs.declared.reader.ShortRead.the-variants as shortRead
 use Rattle.tag_bytes.specs.Fields.{tagLength, fieldLimit, tagOf, numbers, tagWith, tagBytes, withinLimit}
-use Rattle.tag_bytes.specs.Fields.{shortLength, shortTagOf, shortOf, shortNumbers, shortBytes}
-use Rattle.tag_bytes.specs.Reading.{tagQuestions, readQuestions, readAnswerOf, shortReadQuestions, shortReadAnswerOf}
-use Rattle.tag_bytes.specs.TagFile.{tagFile, tagCount, partOf, tagPart, lookupPart}
+use Rattle.tag_bytes.specs.Reading.{tagQuestions, readQuestions, readAnswerOf}
+use Rattle.tag_bytes.specs.TagFile.{tagFile, tagCount, tagPart, lookupPart}
 use Rattle.tag.specs.Pairing.{agreeing, compareQuestions, tagsQuestions, pairQuestions, answerOf, comparedBy, comparedOf, pairAnswerOf}
-use Rattle.tag.specs.Pairing.{placesIn, placeQuestions, pairAtQuestions, pairAtAnswerOf, shortPairQuestions, shortPairAnswerOf}
-use Rattle.tag.specs.Pairing.{shortPlaceQuestions, shortPairAtQuestions, shortPairAtAnswerOf}
-use Rattle.tag_bytes.proofs.Fields.{Within, within-limit, numbers-tagWith, shortNumbers-shortOf}
+use Rattle.tag.specs.Pairing.{placesIn, placeQuestions, pairAtQuestions, pairAtAnswerOf}
+use Rattle.tag_bytes.proofs.Fields.{Within, within-limit, numbers-tagWith}
 use Rattle.tag_bytes.proofs.Reading.{valid-reads, questions-valid, questions-refused}
-use Rattle.tag_bytes.proofs.Reading.{short-valid-reads, short-questions-valid, short-questions-refused}
-use Rattle.tag_bytes.proofs.Writing.{tagBytes-read, shortBytes-read, within-short}
+use Rattle.tag_bytes.proofs.Writing.{tagBytes-read}
 use Rattle.tag_bytes.proofs.TagFile.{lookup-found, part-found, lookup-position, length-tagFile, tagFile-lookup}
 
 -- A reading speaks of a first input.
-first-input : (wide : ℕ) (bytes : List ℕ) (n : Numbers) → from 0 (tagQuestions wide bytes n) ≡ tagQuestions wide bytes n
+pub first-input : (wide : ℕ) (bytes : List ℕ) (n : Numbers) → from 0 (tagQuestions wide bytes n) ≡ tagQuestions wide bytes n
 unfolding question from
 first-input wide bytes n = refl
 
@@ -48,7 +43,7 @@ first-asked : (qs : List Question) → from 0 qs ≡ qs → (accepted : PairAnsw
 first-asked qs own accepted = ap (λ q. firstNo q Refused accepted) (sym own) ∙ first-from 0 qs Refused accepted
 
 -- The questions to the first tag, to the second, and to both.
-in-turn : (rule : Numbers → Numbers → ℕ) (first second : List Question) (u v : Numbers) → from 0 first ≡ first →
+pub in-turn : (rule : Numbers → Numbers → ℕ) (first second : List Question) (u v : Numbers) → from 0 first ≡ first →
     firstNo (tagsQuestions first second u v) Refused (answerOf (outcomeBy rule u v))
     ≡ firstNo first (λ r. Refused (refusalFrom 0 r)) (firstNo second (λ r. Refused (refusalFrom 1 r)) (comparedBy rule u v))
 unfolding comparedBy
@@ -79,27 +74,6 @@ module _ (first second : List ℕ) where
       questions-in-turn ∙ (questions-valid first _ _ a e ∙ (questions-valid second _ _ b g
       ∙ rw (valid-reads first a e .holds, valid-reads second b g .holds)))
 
--- The same of short tags.
-module _ (first second : List ℕ) where
-  short-in-turn : shortPairAnswerOf first second ≡ firstNo (shortReadQuestions first) (λ r. Refused (refusalFrom 0 r))
-      (firstNo (shortReadQuestions second) (λ r. Refused (refusalFrom 1 r))
-      (comparedBy shortBetween (shortNumbers (shortTagOf first)) (shortNumbers (shortTagOf second))))
-  unfolding shortPairAnswerOf shortPairQuestions shortReadQuestions
-  short-in-turn = in-turn shortBetween (shortReadQuestions first) (shortReadQuestions second) _ _ (first-input shortLength first _)
-
-  pub short-first-refused : (r : Refusal) → shortReadAnswerOf first ≡ shortRead.Refused r → shortPairAnswerOf first second ≡ Refused (refusalFrom 0 r)
-  short-first-refused r e = short-in-turn ∙ short-questions-refused first _ _ r e
-
-  pub short-second-refused : (a : ShortTag) (r : Refusal) → shortReadAnswerOf first ≡ shortRead.Valid a → shortReadAnswerOf second ≡ shortRead.Refused r →
-      shortPairAnswerOf first second ≡ Refused (refusalFrom 1 r)
-  short-second-refused a r e g = short-in-turn ∙ (short-questions-valid first _ _ a e ∙ short-questions-refused second _ _ r g)
-
-  pub short-valid : (a b : ShortTag) → shortReadAnswerOf first ≡ shortRead.Valid a → shortReadAnswerOf second ≡ shortRead.Valid b →
-      shortPairAnswerOf first second ≡ comparedBy shortBetween (shortNumbers a) (shortNumbers b)
-  short-valid a b e g =
-      short-in-turn ∙ (short-questions-valid first _ _ a e ∙ (short-questions-valid second _ _ b g
-      ∙ rw (short-valid-reads first a e .holds, short-valid-reads second b g .holds)))
-
 -- The answer from the numbers of two tags by a rule, case by case.
 module _ (rule : Numbers → Numbers → ℕ) (u v : Numbers) where
   -- Tags of two plans are refused by 11.
@@ -123,18 +97,6 @@ module _ (rule : Numbers → Numbers → ℕ) (u v : Numbers) where
   unequal-rank other =
       rw (ne-eqb _ _ other) (⊎-elim (λ t. rw t (⊎-elim (λ s. rw s (⊎-elim (λ r. rw r) (λ r. rw r) (truth (eqb (u .depth) (v .depth))))) (λ s. rw s)
       (truth (eqb (u .component) (v .component))))) (λ t. rw t) (truth (eqb (u .plan) (v .plan))))
-
-  -- So they have one depth; and tags that agree in every field are equal.
-  pub unequal-depth : (u .depth ≡ v .depth → ⊥) → equal u v ≡ false
-  unfolding equal
-  unequal-depth other =
-      rw (ne-eqb _ _ other) (⊎-elim (λ t. rw t (⊎-elim (λ s. rw s) (λ s. rw s) (truth (eqb (u .component) (v .component))))) (λ t. rw t)
-      (truth (eqb (u .plan) (v .plan))))
-
-  pub equal-fields : u .plan ≡ v .plan → u .component ≡ v .component → u .depth ≡ v .depth → u .rank ≡ v .rank → u .last ≡ v .last →
-      equal u v ≡ true
-  unfolding equal
-  equal-fields p c d r l = rw (eq-eqb _ _ p, eq-eqb _ _ c, eq-eqb _ _ d, eq-eqb _ _ r, eq-eqb _ _ l)
 
   module _ (one : u .plan ≡ v .plan) where
     -- "different components no chain": question 12 is answered "yes" there.
@@ -178,7 +140,7 @@ unfolding agreeing
 agreeing-symmetric u v = rw (eqb-symmetric (u .component) (v .component), eqb-symmetric (u .rank) (v .rank), equal-symmetric u v)
 
 -- Nor does the answer from two tags' numbers by a rule that does not mind it, a refusal by 11 or 12 included.
-compared-turned : (rule : Numbers → Numbers → ℕ) (u v : Numbers) → outcomeBy rule u v ≡ outcomeBy rule v u → comparedBy rule u v ≡ comparedBy rule v u
+pub compared-turned : (rule : Numbers → Numbers → ℕ) (u v : Numbers) → outcomeBy rule u v ≡ outcomeBy rule v u → comparedBy rule u v ≡ comparedBy rule v u
 unfolding comparedBy compareQuestions
 compared-turned rule u v turned = rw (eqb-symmetric (u .plan) (v .plan), agreeing-symmetric u v, turned)
 
@@ -191,23 +153,11 @@ pub pair-symmetric : (first second : List ℕ) (a b : Tag) → readAnswerOf firs
 pair-symmetric first second a b e g =
     pair-valid first second a b e g ∙ (compared-symmetric (numbers a) (numbers b) ∙ sym (pair-valid second first b a g e))
 
-pub short-pair-symmetric : (first second : List ℕ) (a b : ShortTag) → shortReadAnswerOf first ≡ shortRead.Valid a →
-    shortReadAnswerOf second ≡ shortRead.Valid b → shortPairAnswerOf first second ≡ shortPairAnswerOf second first
-short-pair-symmetric first second a b e g =
-    let u = shortNumbers a in let v = shortNumbers b in
-    short-valid first second a b e g ∙ (compared-turned shortBetween u v (short-symmetric u v) ∙ sym (short-valid second first b a g e))
-
 -- The answer from the bytes of two tags within the limit is that from their numbers.
 pub pair-tagBytes : (u v : Numbers) → withinLimit u ≡ true → withinLimit v ≡ true → pairAnswerOf (tagBytes u) (tagBytes v) ≡ comparedOf u v
 pair-tagBytes u v hu hv =
     pair-valid (tagBytes u) (tagBytes v) (tagWith u) (tagWith v) (tagBytes-read u hu) (tagBytes-read v hv)
     ∙ rw (numbers-tagWith u, numbers-tagWith v)
-
-pub pair-shortBytes : (u v : Numbers) → withinLimit u ≡ true → withinLimit v ≡ true →
-    shortPairAnswerOf (shortBytes u) (shortBytes v) ≡ comparedBy shortBetween (short u) (short v)
-pair-shortBytes u v hu hv =
-    short-valid (shortBytes u) (shortBytes v) (shortOf (tagWith u)) (shortOf (tagWith v)) (shortBytes-read u (within-short u hu))
-    (shortBytes-read v (within-short v hv)) ∙ rw (shortNumbers-shortOf u, shortNumbers-shortOf v)
 
 -- So is the answer from two tags that are looked up in a tag file.
 pub pair-tagFile : (f : ℕ → Numbers) (n u v : ℕ) → u < n → v < n → withinLimit (f u) ≡ true → withinLimit (f v) ≡ true →
@@ -265,15 +215,15 @@ pub record Places (wide : ℕ) (tags : List ℕ) (first second : ℕ) : Type 0 w
   pub second-there : second < length tags / wide
 
 module _ (wide : ℕ) (tags : List ℕ) (first second : ℕ) where
-  at-9 : (length tags % wide ≡ 0 → ⊥) → asked.Refused (refusalBy 9) ≡ askedOf (placesIn wide tags first second)
+  pub at-9 : (length tags % wide ≡ 0 → ⊥) → asked.Refused (refusalBy 9) ≡ askedOf (placesIn wide tags first second)
   unfolding askedOf firstNo question
   at-9 other = rw (ne-eqb (length tags % wide) 0 other)
 
-  at-whole : length tags % wide ≡ 0 → askedOf (positionQuestions first second (length tags / wide)) ≡ askedOf (placesIn wide tags first second)
+  pub at-whole : length tags % wide ≡ 0 → askedOf (positionQuestions first second (length tags / wide)) ≡ askedOf (placesIn wide tags first second)
   unfolding askedOf firstNo question
   at-whole whole = rw (eq-eqb (length tags % wide) 0 whole)
 
-  at-passed : asked.Passed ≡ askedOf (placesIn wide tags first second) → Places wide tags first second
+  pub at-passed : asked.Passed ≡ askedOf (placesIn wide tags first second) → Places wide tags first second
   unfolding askedOf positionQuestions positionQuestion question from
   at-passed e =
       let all = all-member (placesIn wide tags first second)
@@ -340,44 +290,3 @@ pair-at-tagFile f n first second =
         let within = passed-within first second n e in
         rw (lookup-position (tagFile f n) n first (length-tagFile f n) (within .0), lookup-position (tagFile f n) n second (length-tagFile f n) (within .1))
     passed-parts (asked.Refused r) e = refl
-
--- The same of short tags.
-module _ (tags : List ℕ) (first second : ℕ) where
-  pub short-places-9 : (length tags % shortLength ≡ 0 → ⊥) → asked.Refused (refusalBy 9) ≡ askedOf (shortPlaceQuestions tags first second)
-  unfolding shortPlaceQuestions
-  short-places-9 = at-9 shortLength tags first second
-
-  pub short-places-whole : length tags % shortLength ≡ 0 →
-      askedOf (positionQuestions first second (length tags / shortLength)) ≡ askedOf (shortPlaceQuestions tags first second)
-  unfolding shortPlaceQuestions
-  short-places-whole = at-whole shortLength tags first second
-
-  -- Both tags lie whole within a file that passed.
-  pub short-places-within : asked.Passed ≡ askedOf (shortPlaceQuestions tags first second) →
-      (shortLength * first + shortLength ≤ length tags) × (shortLength * second + shortLength ≤ length tags)
-  unfolding shortPlaceQuestions
-  short-places-within e =
-      let p = at-passed shortLength tags first second e in
-      (omega (arith, p .first-there), omega (arith, p .second-there))
-
-  module _ (answer : Asked) (e : answer ≡ askedOf (shortPlaceQuestions tags first second)) where
-    pub short-at-refused : (r : Refusal) → answer ≡ asked.Refused r → Refused r ≡ shortPairAtAnswerOf tags first second
-    unfolding shortPairAtAnswerOf shortPairAtQuestions
-    short-at-refused = asked-refused (shortPlaceQuestions tags first second) _ Refused _ answer e
-
-    pub short-at-passed : answer ≡ asked.Passed →
-        shortPairAnswerOf (partOf shortLength tags first) (partOf shortLength tags second) ≡ shortPairAtAnswerOf tags first second
-    unfolding shortPairAnswerOf shortPairAtAnswerOf shortPairAtQuestions
-    short-at-passed p = asked-passed (shortPlaceQuestions tags first second) _ Refused _ answer e p
-
-  -- In a file of n short tags that is the pair call on the parts at two positions below n.
-  pub short-at-found : (n : ℕ) → length tags ≡ shortLength * n → first < n → second < n →
-      shortPairAtAnswerOf tags first second ≡ shortPairAnswerOf (partOf shortLength tags first) (partOf shortLength tags second)
-  unfolding shortPlaceQuestions positionQuestions positionQuestion askedOf firstNo question from
-  short-at-found n long hu hv =
-      sym (short-at-passed asked.Passed
-      (rw (
-        eq-eqb (length tags % shortLength) 0 (omega arith),
-        lt-ltb first (length tags / shortLength) (omega arith),
-        lt-ltb second (length tags / shortLength) (omega arith),
-      )) refl)

@@ -1,20 +1,19 @@
 -- Paper 01: "From two tags the answer is one of: a number of handovers; no chain; a refusal." The rule itself, on numbers, is
--- `outcome` of interval_graph. Paper 02, Q-1: the same for short tags, "with eight bytes a tag", by `shortOutcome`.
+-- `outcome` of interval_graph.
 -- Vocabulary: agreeing, compareQuestions, tagsQuestions, pairQuestions, answerOf, comparedBy, comparedOf, pairAnswerOf, placesIn,
--- placeQuestions, pairAtQuestions, pairAtAnswerOf; shortPairQuestions, shortPairAnswerOf, shortPlaceQuestions, shortPairAtQuestions,
--- shortPairAtAnswerOf.
+-- placeQuestions, pairAtQuestions, pairAtAnswerOf.
 use Prim.Native.Nat.{ℕ, _/_}
 use mathlib.Core.Bool.{Bool, true, cond, _&&_}
 use mathlib.Core.List.{List, [], _∷_, _++_}
 use lib.Dec.{eqb}
 use lib.ListN.{length}
-use Rattle.interval_graph.specs.Numbers.{Numbers, Outcome, apart, no-chain, equal, outcomeBy, between, outcome, shortOutcome}
+use Rattle.interval_graph.specs.Numbers.{Numbers, Outcome, apart, no-chain, equal, outcomeBy, between, outcome}
 use Rattle.refusals.specs.Question.{Question, question, from, firstNo, positionQuestions}
 use Rattle.tag.specs.declared.pairs.PairAnswer.{PairAnswer}
 use Rattle.tag.specs.declared.pairs.PairAnswer.the-variants.{Handovers, NoChain, Refused}
-use Rattle.tag_bytes.specs.Fields.{tagLength, shortLength, tagOf, numbers, shortTagOf, shortNumbers}
-use Rattle.tag_bytes.specs.Reading.{readQuestions, shortReadQuestions}
-use Rattle.tag_bytes.specs.TagFile.{partOf, tagPart, wholeQuestion}
+use Rattle.tag_bytes.specs.Fields.{tagLength, tagOf, numbers}
+use Rattle.tag_bytes.specs.Reading.{readQuestions}
+use Rattle.tag_bytes.specs.TagFile.{tagPart, wholeQuestion}
 
 -- "two tags of equal component and equal rank agree in all fields"
 unfoldable pub agreeing : Numbers → Numbers → Bool
@@ -66,27 +65,3 @@ unfoldable pub pairAtAnswerOf : List ℕ → (first second : ℕ) → PairAnswer
 pairAtAnswerOf tags first second =
     firstNo (pairAtQuestions tags first second) Refused
     (answerOf (outcome (numbers (tagOf (tagPart tags first))) (numbers (tagOf (tagPart tags second)))))
-
--- Q-1: "Checks 8 to 12 apply with eight bytes a tag." The answer for every two byte strings, as short tags.
-unfoldable pub shortPairQuestions : List ℕ → List ℕ → List Question
-shortPairQuestions first second =
-    tagsQuestions (shortReadQuestions first) (shortReadQuestions second) (shortNumbers (shortTagOf first)) (shortNumbers (shortTagOf second))
-
-unfoldable pub shortPairAnswerOf : List ℕ → List ℕ → PairAnswer
-shortPairAnswerOf first second =
-    firstNo (shortPairQuestions first second) Refused
-    (answerOf (shortOutcome (shortNumbers (shortTagOf first)) (shortNumbers (shortTagOf second))))
-
--- The same for two positions of a file of short tags.
-unfoldable pub shortPlaceQuestions : List ℕ → (first second : ℕ) → List Question
-shortPlaceQuestions tags first second = placesIn shortLength tags first second
-
-unfoldable pub shortPairAtQuestions : List ℕ → (first second : ℕ) → List Question
-shortPairAtQuestions tags first second =
-    shortPlaceQuestions tags first second ++ shortPairQuestions (partOf shortLength tags first) (partOf shortLength tags second)
-
-unfoldable pub shortPairAtAnswerOf : List ℕ → (first second : ℕ) → PairAnswer
-shortPairAtAnswerOf tags first second =
-    let u = shortNumbers (shortTagOf (partOf shortLength tags first)) in
-    let v = shortNumbers (shortTagOf (partOf shortLength tags second)) in
-    firstNo (shortPairAtQuestions tags first second) Refused (answerOf (shortOutcome u v))
