@@ -1,6 +1,6 @@
--- Demand 1: a plan file, position, table or tag that breaks a rule of paper 01 or of a request in force is refused with the number, input and
--- position given there, and everything lent stays untouched; nothing else is refused; every public call takes every input and returns. (That it does
--- is what its proof says: no public call has a `requires`, and a proved function ends.)
+-- Demand 1: a plan file, position, table or tag that breaks a rule of paper 01 or of a request in force is refused with the number,
+-- input and position given there, and everything lent stays untouched; nothing else is refused; every public call takes every input
+-- and returns. (That it does is what its proof says: no public call has a `requires`, and a proved function ends.)
 -- Vocabulary: FirstNo, Refuses, Demand1.
 use Prim.Native.Nat.{ℕ}
 use mathlib.Core.{Bool.true, Bool.false, Path._≡_, Logic._↔_, List.List, List.[], List._∷_}

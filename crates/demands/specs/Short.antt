@@ -5,9 +5,11 @@ use mathlib.Core.{Path._≡_, Logic._↔_, List.List, List._++_}
 use lib.ListN.{length, getD, take, drop}
 use Rattle.sequences.specs.Table.{overwritten}
 use Rattle.interval_graph.specs.{Chain.Joined, Chain.LeastHandovers, Numbers.Numbers, Numbers.numbersOf}
-use Rattle.plan.specs.{File.planNumber, File.windowCount, File.windowAt, File.endOf, Overlap.overlaps, Validation.AcceptedPlan, Even.EvenPlan}
+use Rattle.plan.specs.{File.planNumber, File.windowCount, File.windowAt, File.endOf, Overlap.overlaps}
+use Rattle.plan.specs.{Validation.AcceptedPlan, Even.EvenPlan}
 use Rattle.tag_bytes.specs.{declared.reader.ShortTag.ShortTag, Fields.shortLength, Fields.tagWith, Fields.shortOf, Fields.shortNumbers}
-use Rattle.tag_bytes.specs.{Reading.shortReadAnswerOf, Writing.shortWriteAnswerOf, Writing.afterShortWrite, TagFile.partOf, TagFile.shortTagFile}
+use Rattle.tag_bytes.specs.{Reading.shortReadAnswerOf, Writing.shortWriteAnswerOf, Writing.afterShortWrite}
+use Rattle.tag_bytes.specs.TagFile.{partOf, shortTagFile}
 use Rattle.tag_bytes.specs.declared.reader.ShortRead.the-variants as ShortRead
 use Rattle.tag_bytes.specs.declared.writer.WriteAnswer.the-variants as WriteAnswer
 use Rattle.tag.specs.Pairing.{pairAnswerOf}
@@ -77,5 +79,5 @@ pub record ShortTags : Type 0 where
       afterShortWrite (shortWriteAnswerOf (shortNumbers t) out) (shortNumbers t) out ≡ bytes ++ drop shortLength out
   -- Two short tags that can be read answer alike in either order, whatever plan they come from.
   pub either-order :
-      (first second : List ℕ) (a b : ShortTag) → shortReadAnswerOf first ≡ ShortRead.Valid a → shortReadAnswerOf second ≡ ShortRead.Valid b →
-      shortPairAnswerOf first second ≡ shortPairAnswerOf second first
+      (first second : List ℕ) (a b : ShortTag) → shortReadAnswerOf first ≡ ShortRead.Valid a →
+      shortReadAnswerOf second ≡ ShortRead.Valid b → shortPairAnswerOf first second ≡ shortPairAnswerOf second first

@@ -15,7 +15,8 @@ use Rattle.tag.specs.Pairing.{tagsQuestions, answerOf, placesIn}
 -- The answer for every two byte strings: the first "no", or what the rule says.
 unfoldable pub shortPairQuestions : List ℕ → List ℕ → List Question
 shortPairQuestions first second =
-    tagsQuestions (shortReadQuestions first) (shortReadQuestions second) (shortNumbers (shortTagOf first)) (shortNumbers (shortTagOf second))
+    tagsQuestions (shortReadQuestions first) (shortReadQuestions second) (shortNumbers (shortTagOf first))
+    (shortNumbers (shortTagOf second))
 
 unfoldable pub shortPairAnswerOf : List ℕ → List ℕ → PairAnswer
 shortPairAnswerOf first second =

@@ -1,7 +1,8 @@
 -- Paper 01: "A tag file is the tags of a plan in order of position … Looking up a position hands back that ten-byte part of
 -- the caller's tag file. A refused lookup hands back an empty part, and a second call on the same inputs gives the refusal, or
 -- says that there is none. A lookup is put only to 9 and 7."
--- Vocabulary: tagFile, tagCount, partOf, tagPart, wholeQuestion, tagFileQuestion, lookupQuestions, lookupAnswerOf, lookupPart; shortTagFile.
+-- Vocabulary: tagFile, tagCount, partOf, tagPart, wholeQuestion, tagFileQuestion, lookupQuestions, lookupAnswerOf, lookupPart;
+-- shortTagFile.
 use Prim.Native.Nat.{ℕ, _*_, _/_, _%_}
 use mathlib.Core.List.{List, [], _∷_, flatMap}
 use lib.ListN.{length, take, drop}
