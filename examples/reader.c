@@ -1,6 +1,7 @@
 /* A fitter's reader: the least number of handovers between two windows, from their tags alone.
  *
- *   reader FIRST SECOND        two files of ten bytes each
+ *   reader FIRST SECOND            two files of ten bytes each
+ *   reader --short FIRST SECOND    two files of eight, the short tags of an even plan
  *
  * Compiled in a checkout, after ./poddreshi build, or against an installed tree:
  *
@@ -10,6 +11,7 @@
  * Prints the count, or that no chain joins the windows, or the refusal with its number. Exit status 0 for an answer, 1 for
  * a refusal, 2 where a file cannot be read. */
 #include <stdio.h>
+#include <string.h>
 
 #include "poddreshi.h"
 
@@ -35,13 +37,16 @@ int main(int count, char **words) {
     uint8_t first[ROOM], second[ROOM];
     size_t first_length, second_length;
     uint64_t answer;
+    int is_short = count == 4 && strcmp(words[1], "--short") == 0;
 
-    if (count != 3) {
-        fprintf(stderr, "usage: reader FIRST SECOND\n");
+    if (count != 3 && !is_short) {
+        fprintf(stderr, "usage: reader [--short] FIRST SECOND\n");
         return 2;
     }
+    words += is_short;
     if (!read_tag(words[1], first, &first_length) || !read_tag(words[2], second, &second_length)) return 2;
-    answer = poddreshi_pair(first, first_length, second, second_length);
+    answer = is_short ? poddreshi_short_pair(first, first_length, second, second_length)
+                      : poddreshi_pair(first, first_length, second, second_length);
     switch (poddreshi_kind(answer)) {
     case PODDRESHI_HANDOVERS:
         printf("%u\n", poddreshi_count(answer));

@@ -6,7 +6,7 @@
 --   Tree     last and parent, and the forest of these parents
 --   Walk     the chain that is written between two windows
 --   Reach    the last window of a component, and how far apart its windows can be
---   Numbers  the five numbers of a window, and what two windows' numbers say of their distance
+--   Numbers  the five numbers of a window, and what two windows' numbers say of their distance; the same without the fifth
 pub mod Chain
 pub mod Order
 pub mod Forest
