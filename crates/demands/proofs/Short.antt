@@ -1,14 +1,14 @@
 -- Q-1: the theory of short tags at the overlap of an even plan, and plan 12, of which the two pairs do not answer alike.
 -- Assumes nothing.
 use Prim.Native.Nat.{ℕ, _*_, _≤_, _<_}
-use mathlib.Core.{Bool.true, Bool._&&_, Path._≡_, Path.refl, Path.sym, Path.ap, Path._∙_, List.List, List.[], List._∷_}
+use mathlib.Core.{Bool.true, Bool._&&_, Path._≡_, Path.refl, Path.sym, Path.ap, Path._∙_, List.List, List.[]}
 use native.Mathlib.Omega.{arith}
 use lib.ListN.{length}
-use lib.Dec.{eqb, ltb}
+use lib.Dec.{eqb}
 use borrow.Author.Tests.{eqb-true, eq-eqb, le-leb}
 use Rattle.sequences.proofs.Tests.{and-left, and-right, cond-cases}
 use Rattle.interval_graph.specs.Tree.{component, rank}
-use Rattle.interval_graph.specs.Numbers.{numbersOf, outcome, short, shortBetween, shortOutcome}
+use Rattle.interval_graph.specs.Numbers.{numbersOf, short, shortBetween, shortOutcome}
 use Rattle.interval_graph.proofs.Plan12.{definitions}
 use Rattle.interval_graph.proofs.Outcome.{equal-refl}
 use Rattle.interval_graph.proofs.Rule.{same-window}
@@ -17,7 +17,7 @@ use Rattle.refusals.specs.Question.{question, from, roomQuestion, firstNo, allY
 use Rattle.refusals.proofs.Question.{first-append, all-first}
 use Rattle.plan.specs.File.{planNumber, windowCount}
 use Rattle.plan.specs.Overlap.{overlaps}
-use Rattle.plan.specs.Validation.{planQuestions, AcceptedPlan}
+use Rattle.plan.specs.Validation.{AcceptedPlan}
 use Rattle.plan.specs.Even.{evenQuestions}
 use Rattle.plan.proofs.Plan12.{meaning}
 use Rattle.plan.proofs.Overlap.{interval-order}

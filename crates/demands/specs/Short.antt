@@ -7,7 +7,7 @@ use Rattle.sequences.specs.Table.{overwritten}
 use Rattle.interval_graph.specs.{Chain.Joined, Chain.LeastHandovers, Numbers.Numbers, Numbers.numbersOf}
 use Rattle.plan.specs.{File.planNumber, File.windowCount, File.windowAt, File.endOf, Overlap.overlaps}
 use Rattle.plan.specs.{Validation.AcceptedPlan, Even.EvenPlan}
-use Rattle.tag_bytes.specs.{declared.reader.ShortTag.ShortTag, Fields.shortLength, Fields.tagWith, Fields.shortOf, Fields.shortNumbers}
+use Rattle.tag_bytes.specs.{declared.reader.ShortTag.ShortTag, Fields.shortLength, Fields.shortTagWith, Fields.shortNumbers}
 use Rattle.tag_bytes.specs.{Reading.shortReadAnswerOf, Writing.shortWriteAnswerOf, Writing.afterShortWrite}
 use Rattle.tag_bytes.specs.TagFile.{partOf, shortTagFile}
 use Rattle.tag_bytes.specs.declared.reader.ShortRead.the-variants as ShortRead
@@ -68,11 +68,11 @@ pub record ShortTags : Type 0 where
   pub tags :
       (file : List ℕ) → AcceptedPlan file → (v : ℕ) → v < windowCount file →
       shortReadAnswerOf (shortTagAt file v)
-      ≡ ShortRead.Valid (shortOf (tagWith (numbersOf (windowCount file) (overlaps file) (planNumber file) v)))
+      ≡ ShortRead.Valid (shortTagWith (numbersOf (windowCount file) (overlaps file) (planNumber file) v))
   -- A written short tag reads back as the same four numbers, and eight bytes that read as one are written back the same.
   pub reads-back :
       (n : Numbers) (out : List ℕ) → shortWriteAnswerOf n out ≡ WriteAnswer.Written →
-      shortReadAnswerOf (take shortLength (afterShortWrite (shortWriteAnswerOf n out) n out)) ≡ ShortRead.Valid (shortOf (tagWith n))
+      shortReadAnswerOf (take shortLength (afterShortWrite (shortWriteAnswerOf n out) n out)) ≡ ShortRead.Valid (shortTagWith n)
   pub writes-back :
       (bytes : List ℕ) (t : ShortTag) (out : List ℕ) → ((i : ℕ) → getD bytes i 0 < 256) →
       shortReadAnswerOf bytes ≡ ShortRead.Valid t → shortLength ≤ length out →

@@ -2,9 +2,8 @@
 -- Vocabulary: short-*.
 -- Assumes nothing.
 use Prim.Native.Nat.{ℕ, _*_, _/_, _≤_, _<_, min}
-use mathlib.Core.{Path._≡_, Path.refl, Path.sym, Path.ap, Path._∙_, List.List, List.[], List._∷_, List._++_}
+use mathlib.Core.{Path._≡_, Path.sym, Path.ap, Path._∙_, List.List}
 use native.Mathlib.Omega.{arith}
-use lib.ListN.{length}
 use lib.Dec.{leb}
 use borrow.Author.Tests.{leb-true, le-leb}
 use Rattle.sequences.specs.Table.{Holds}
@@ -12,11 +11,10 @@ use Rattle.sequences.proofs.Tests.{iff-equal}
 use Rattle.interval_graph.specs.Numbers.{numbersOf, short}
 use Rattle.interval_graph.proofs.Bounds.{numbers-small}
 use Rattle.refusals.specs.declared.Refusal.{Refusal}
-use Rattle.refusals.specs.Question.{question, roomQuestion, firstNo}
+use Rattle.refusals.specs.Question.{roomQuestion}
 use Rattle.refusals.proofs.Question.{first-map}
 use Rattle.plan.specs.File.{planNumber, windowCount}
-use Rattle.plan.specs.Validation.{greatestCount, AcceptedPlan}
-use Rattle.plan.specs.Even.{evenQuestions}
+use Rattle.plan.specs.Validation.{greatestCount}
 use Rattle.plan.specs.AcceptedWindows.{AcceptedWindows}
 use Rattle.plan.proofs.Accepted.{accepted-sound}
 use Rattle.plan.proofs.Calls.{plan-alike}

@@ -5,13 +5,13 @@
 -- Assumes nothing.
 use Prim.Native.Nat.{ℕ, zero, suc, _+_, _-_, _≤_, _<_}
 use mathlib.Core.Bool.{Bool, true, false}
-use mathlib.Core.{Path._≡_, Path.refl, Path.sym, Path.ap, Path._∙_, Logic.⊎-elim}
+use mathlib.Core.{Path._≡_, Path.sym, Path.ap, Path._∙_, Logic.⊎-elim}
 use native.Mathlib.Omega.{arith}
 use lib.Dec.{ltb}
 use borrow.Author.Tests.{ltb-true, ltb-false}
 use Rattle.sequences.proofs.Tests.{cond-cases, lt-or-ge, equal-or-not, truth}
 use Rattle.interval_graph.specs.{Order.IntervalOrder, Walk.climb}
-use Rattle.interval_graph.specs.Tree.{last, parent, ancestor, depth, root, component, rank, LastsRise}
+use Rattle.interval_graph.specs.Tree.{last, parent, ancestor, depth, root, rank, LastsRise}
 use Rattle.interval_graph.specs.Numbers.{Numbers, numbersOf, apart, equal, comesFirst, between, outcome, short, shortBetween, shortOutcome}
 use Rattle.interval_graph.proofs.Ancestor.{ancestor-zero, ancestor-suc, ancestor-below}
 use Rattle.interval_graph.proofs.{Monotone.depth-monotone, Component.root-component, Component.component-root, Before.rank-lt-iff}

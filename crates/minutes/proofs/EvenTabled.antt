@@ -8,8 +8,8 @@ use borrow.Author.Tests.{leb-true, le-leb, lt-leb}
 use Rattle.refusals.specs.declared.Refusal.{Refusal}
 use Rattle.refusals.specs.declared.Asked.{Asked}
 use Rattle.refusals.specs.declared.Asked.the-variants as Asked
-use Rattle.refusals.specs.Question.{Question, refusalBy, question, roomQuestion, firstNo, askedOf}
-use Rattle.refusals.proofs.Question.{first-yes, first-no, asked-refused, asked-passed, answer-accepted, first-all, all-member, append-left, append-right}
+use Rattle.refusals.specs.Question.{refusalBy, question, roomQuestion, firstNo, askedOf}
+use Rattle.refusals.proofs.Question.{asked-refused, asked-passed, answer-accepted, first-all, all-member, append-left, append-right}
 use Rattle.plan.specs.declared.questions.Validation.{Validation}
 use Rattle.plan.specs.declared.questions.Validation.the-variants as Validation
 use Rattle.plan.specs.File.{windowCount}

@@ -3,7 +3,7 @@
 -- Vocabulary: even-ends, ends-even, even-lasts; Rising, rising-*.
 -- Assumes nothing.
 use Prim.Native.Nat.{ℕ, zero, suc, _+_, _≤_, _<_}
-use mathlib.Core.{Bool.true, Path._≡_, Path.refl, Path.sym, Path.ap, Path._∙_, Logic.⊎-elim, List.List, List.[], List._∷_, List.List·Memᴰ·head}
+use mathlib.Core.{Bool.true, Path._≡_, Path.refl, Path.sym, Path._∙_, Logic.⊎-elim, List.List, List.[], List._∷_, List.List·Memᴰ·head}
 use native.Mathlib.{Omega.arith, Numerals.add-one}
 use borrow.Author.Tests.{leb-true, ltb-true, lt-ltb, le-leb, lt-leb}
 use Rattle.sequences.proofs.Tests.{lt-or-ge}

@@ -18,10 +18,10 @@ use Rattle.refusals.specs.Question.{refusalBy, refusalFrom, question, from, fir
 use Rattle.refusals.proofs.Question.{asked-refused, asked-passed}
 use Rattle.tag_bytes.specs.declared.reader.ShortTag.{ShortTag}
 use Rattle.tag_bytes.specs.declared.reader.ShortRead.the-variants as shortRead
-use Rattle.tag_bytes.specs.Fields.{tagWith, withinLimit, shortLength, shortTagOf, shortOf, shortNumbers, shortBytes}
+use Rattle.tag_bytes.specs.Fields.{withinLimit, shortLength, shortTagOf, shortTagWith, shortNumbers, shortBytes}
 use Rattle.tag_bytes.specs.Reading.{shortReadQuestions, shortReadAnswerOf}
 use Rattle.tag_bytes.specs.TagFile.{partOf}
-use Rattle.tag_bytes.proofs.Fields.{shortNumbers-shortOf}
+use Rattle.tag_bytes.proofs.Fields.{shortNumbers-shortTagWith}
 use Rattle.tag_bytes.proofs.Reading.{short-valid-reads, short-questions-valid, short-questions-refused}
 use Rattle.tag_bytes.proofs.Writing.{shortBytes-read, within-short}
 use Rattle.tag.specs.declared.pairs.PairAnswer.the-variants.{Refused}
@@ -75,8 +75,8 @@ short-pair-symmetric first second a b e g =
 pub pair-shortBytes : (u v : Numbers) → withinLimit u ≡ true → withinLimit v ≡ true →
     shortPairAnswerOf (shortBytes u) (shortBytes v) ≡ comparedBy shortBetween (short u) (short v)
 pair-shortBytes u v hu hv =
-    short-valid (shortBytes u) (shortBytes v) (shortOf (tagWith u)) (shortOf (tagWith v)) (shortBytes-read u (within-short u hu))
-    (shortBytes-read v (within-short v hv)) ∙ rw (shortNumbers-shortOf u, shortNumbers-shortOf v)
+    short-valid (shortBytes u) (shortBytes v) (shortTagWith u) (shortTagWith v) (shortBytes-read u (within-short u hu))
+    (shortBytes-read v (within-short v hv)) ∙ rw (shortNumbers-shortTagWith u, shortNumbers-shortTagWith v)
 
 -- The answer for two positions of a file of short tags: 9, 7, and then the two tags.
 module _ (tags : List ℕ) (first second : ℕ) where

@@ -14,7 +14,7 @@ use Rattle.wire.specs.LittleEndian.{le16, bytes16}
 use Rattle.wire.proofs.LittleEndian.{bytes16-at}
 use Rattle.tag_bytes.specs.declared.reader.ShortTag.{ShortTag}
 use Rattle.tag_bytes.specs.Fields.{tagLength, fieldLimit, field, tagOf, numbers, tagWith, tagBytes, withinLimit}
-use Rattle.tag_bytes.specs.Fields.{shortLength, shortTagOf, shortOf, withLast, shortNumbers, shortBytes}
+use Rattle.tag_bytes.specs.Fields.{shortLength, shortTagOf, shortTagWith, withLast, shortNumbers, shortBytes}
 
 -- The fields after the plan number are at most the limit.
 pub record Within (n : Numbers) : Type 0 where
@@ -86,8 +86,8 @@ length-tagBytes n = refl
 two-bytes : (x : ℕ) → x % 256 + 256 * (x / 256) ≡ x
 two-bytes x = omega arith
 
-pub shortTagOf-shortBytes : (n : Numbers) → shortTagOf (shortBytes n) ≡ shortOf (tagWith n)
-unfolding shortTagOf field le16 shortBytes bytes16 shortOf tagWith
+pub shortTagOf-shortBytes : (n : Numbers) → shortTagOf (shortBytes n) ≡ shortTagWith n
+unfolding shortTagOf field le16 shortBytes bytes16 shortTagWith
 shortTagOf-shortBytes n = rw (two-bytes (n .plan), two-bytes (n .component), two-bytes (n .depth), two-bytes (n .rank))
 
 pub tagOf-tagBytes : (n : Numbers) → tagOf (tagBytes n) ≡ tagWith n
@@ -100,9 +100,9 @@ unfolding numbers tagWith
 numbers-tagWith n = refl
 
 -- The numbers of a short tag are those of the tag, but for the last.
-pub shortNumbers-shortOf : (n : Numbers) → shortNumbers (shortOf (tagWith n)) ≡ short n
-unfolding shortNumbers numbers withLast shortOf tagWith short
-shortNumbers-shortOf n = refl
+pub shortNumbers-shortTagWith : (n : Numbers) → shortNumbers (shortTagWith n) ≡ short n
+unfolding shortNumbers numbers withLast shortTagWith short
+shortNumbers-shortTagWith n = refl
 
 -- As many bytes as a tag has, written from the numbers that they hold, are the same bytes.
 module _ (bytes : List ℕ) (small : (i : ℕ) → getD bytes i 0 < 256) where

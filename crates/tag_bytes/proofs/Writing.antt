@@ -22,12 +22,12 @@ use Rattle.tag_bytes.specs.declared.writer.WriteAnswer.{WriteAnswer}
 use Rattle.tag_bytes.specs.declared.writer.WriteAnswer.the-variants.{Written, Refused}
 use Rattle.tag_bytes.specs.declared.reader.ShortTag.{ShortTag}
 use Rattle.tag_bytes.specs.declared.reader.ShortRead.the-variants as shortRead
-use Rattle.tag_bytes.specs.Fields.{tagLength, numbers, tagWith, tagBytes, withinLimit, shortLength, shortOf, shortNumbers, shortBytes}
+use Rattle.tag_bytes.specs.Fields.{tagLength, numbers, tagWith, tagBytes, withinLimit, shortLength, shortTagWith, shortNumbers, shortBytes}
 use Rattle.tag_bytes.specs.Reading.{readAnswerOf, shortReadAnswerOf}
 use Rattle.tag_bytes.specs.Writing.{putQuestions, writeQuestions, writeAnswerOf, afterWrite}
 use Rattle.tag_bytes.specs.Writing.{shortWriteQuestions, shortWriteAnswerOf, afterShortWrite}
 use Rattle.tag_bytes.proofs.Fields.{within-limit, limit-within, length-tagBytes, tagOf-tagBytes, numbers-tagWith, tagBytes-tagOf}
-use Rattle.tag_bytes.proofs.Fields.{length-shortBytes, shortTagOf-shortBytes, shortNumbers-shortOf, shortBytes-shortTagOf}
+use Rattle.tag_bytes.proofs.Fields.{length-shortBytes, shortTagOf-shortBytes, shortNumbers-shortTagWith, shortBytes-shortTagOf}
 use Rattle.tag_bytes.proofs.Reading.{read-valid, valid-reads, short-read-valid, short-valid-reads}
 
 -- The answer to numbers that are to be written as so many bytes.
@@ -162,9 +162,9 @@ read-writes-back bytes t out small e room =
     rw (read-accepted bytes t out e room) (at-front tagBytes tagLength length-tagBytes (numbers t) out ∙ read-tagBytes bytes t small e)
 
 -- The same of a short tag.
-pub shortBytes-read : (n : Numbers) → withinLimit (short n) ≡ true → shortReadAnswerOf (shortBytes n) ≡ shortRead.Valid (shortOf (tagWith n))
+pub shortBytes-read : (n : Numbers) → withinLimit (short n) ≡ true → shortReadAnswerOf (shortBytes n) ≡ shortRead.Valid (shortTagWith n)
 shortBytes-read n within =
-    sym (short-read-valid (shortBytes n) (shortOf (tagWith n)) (length-shortBytes n) (sym (shortTagOf-shortBytes n)) (rw (shortNumbers-shortOf n) within))
+    sym (short-read-valid (shortBytes n) (shortTagWith n) (length-shortBytes n) (sym (shortTagOf-shortBytes n)) (rw (shortNumbers-shortTagWith n) within))
 
 -- A field that a short tag does not have is past no limit.
 pub within-short : (n : Numbers) → withinLimit n ≡ true → withinLimit (short n) ≡ true
@@ -174,7 +174,7 @@ within-short n within =
     limit-within _ (record { component = w .component; depth = w .depth; rank = w .rank; last = omega arith })
 
 pub short-reads-back : (n : Numbers) (out : List ℕ) → shortWriteAnswerOf n out ≡ Written →
-    shortReadAnswerOf (take shortLength (afterShortWrite (shortWriteAnswerOf n out) n out)) ≡ shortRead.Valid (shortOf (tagWith n))
+    shortReadAnswerOf (take shortLength (afterShortWrite (shortWriteAnswerOf n out) n out)) ≡ shortRead.Valid (shortTagWith n)
 unfolding afterShortWrite shortWriteAnswerOf shortWriteQuestions
 short-reads-back n out e =
     rw (e, at-front shortBytes shortLength length-shortBytes n out)

@@ -1,7 +1,7 @@
 -- Paper 01, "Tag": "Five numbers of two bytes, lowest byte first: plan number, component, depth, rank, rank of the last.
 -- `Tag` has fixed figures: 10 bytes, fields after the first at most 2,047."
 -- Paper 02, Q-1: "an eight-byte tag (plan number, component, depth, rank)".
--- Vocabulary: fieldCount, tagLength, fieldLimit, field, tagOf, numbers, tagWith, tagBytes, withinLimit; shortLength, shortTagOf, shortOf,
+-- Vocabulary: fieldCount, tagLength, fieldLimit, field, tagOf, numbers, tagWith, tagBytes, withinLimit; shortLength, shortTagOf, shortTagWith,
 -- withLast, shortNumbers, shortBytes.
 use Prim.Native.Nat.{ℕ, _-_, _*_}
 use mathlib.Core.Bool.{Bool, _&&_}
@@ -57,12 +57,12 @@ unfoldable pub withinLimit : Numbers → Bool
 withinLimit n =
     leb (n .component) fieldLimit && (leb (n .depth) fieldLimit && (leb (n .rank) fieldLimit && leb (n .last) fieldLimit))
 
--- The short tag that bytes hold, the short tag of a tag, and the tag of a short tag and the rank of a last.
+-- The short tag that bytes hold, the one with given numbers, and the tag of a short tag and the rank of a last.
 unfoldable pub shortTagOf : List ℕ → ShortTag
 shortTagOf bytes = record { plan = field bytes 0; component = field bytes 1; depth = field bytes 2; rank = field bytes 3 }
 
-unfoldable pub shortOf : Tag → ShortTag
-shortOf t = record { plan = t .plan; component = t .component; depth = t .depth; rank = t .rank }
+unfoldable pub shortTagWith : Numbers → ShortTag
+shortTagWith n = record { plan = n .plan; component = n .component; depth = n .depth; rank = n .rank }
 
 unfoldable pub withLast : ShortTag → ℕ → Tag
 withLast t last = record { plan = t .plan; component = t .component; depth = t .depth; rank = t .rank; last = last }

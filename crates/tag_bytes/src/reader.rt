@@ -1,7 +1,7 @@
 // A tag, long or short, read from its bytes: paper 01's questions 9 and 10.
 use refusals::Refusal;
 ghost use mathlib.Core.Path.{_≡_};
-ghost use Rattle.tag_bytes.specs.Fields.{tagOf, numbers, withinLimit, shortTagOf, shortOf, withLast};
+ghost use Rattle.tag_bytes.specs.Fields.{tagOf, numbers, withinLimit, shortTagOf, withLast};
 ghost use Rattle.tag_bytes.specs.Reading.{readAnswerOf, refusalOf, shortReadAnswerOf, shortRefusalOf};
 
 // The five numbers of a window, which a reader answers from.
@@ -86,18 +86,6 @@ impl Tag {
             return TagRead::Refused(Refusal::by(10));
         }
         TagRead::Valid(tag)
-    }
-
-    // The short tag of the same window.
-    pub(crate) fn short(self) -> ShortTag
-        ensures { λ r. ⌜ r ≡ shortOf self ⌝ }
-    {
-        ShortTag {
-            plan: self.plan,
-            component: self.component,
-            depth: self.depth,
-            rank: self.rank,
-        }
     }
 
     // The refusal of a reading, of the input named; all zeros where nothing was refused.

@@ -7,7 +7,7 @@ ghost use mathlib.Core.Path.{_≡_};
 ghost use Prim.Native.Nat.{_≤_};
 ghost use lib.ListN.{length};
 ghost use Rattle.sequences.specs.Table.{overwritten};
-ghost use Rattle.tag_bytes.specs.Fields.{tagLength, numbers, tagBytes, shortLength, shortNumbers, shortBytes};
+ghost use Rattle.tag_bytes.specs.Fields.{tagLength, numbers, tagBytes, shortLength, shortBytes};
 ghost use Rattle.tag_bytes.specs.Writing.{writeAnswerOf, afterWrite, shortWriteAnswerOf, afterShortWrite};
 
 pub enum WriteAnswer {
@@ -15,10 +15,10 @@ pub enum WriteAnswer {
     Refused(Refusal),
 }
 
-// Writes the four numbers one behind the other at the front of a table that has room for them.
-fn put_short(tag: ShortTag, out: &mut [u8])
+// Writes the four numbers of a short tag one behind the other at the front of a table that has room for them.
+fn put_short(tag: Tag, out: &mut [u8])
     requires { ⌜ shortLength ≤ length (now out) ⌝ }
-    ensures { λ _. ⌜ now (out .exit) ≡ overwritten (now (out .entry)) (shortBytes (shortNumbers tag)) ⌝ }
+    ensures { λ _. ⌜ now (out .exit) ≡ overwritten (now (out .entry)) (shortBytes (numbers tag)) ⌝ }
 {
     wire::write_u16(out, 0, tag.plan);
     wire::write_u16(out, 2, tag.component);
@@ -26,12 +26,12 @@ fn put_short(tag: ShortTag, out: &mut [u8])
     wire::write_u16(out, 6, tag.rank);
 }
 
-// The same for five numbers.
+// The same for all five.
 fn put(tag: Tag, out: &mut [u8])
     requires { ⌜ tagLength ≤ length (now out) ⌝ }
     ensures { λ _. ⌜ now (out .exit) ≡ overwritten (now (out .entry)) (tagBytes (numbers tag)) ⌝ }
 {
-    put_short(tag.short(), out);
+    put_short(tag, out);
     wire::write_u16(out, 8, tag.last);
 }
 
@@ -72,13 +72,14 @@ pub fn short_write(plan: u16, component: u16, depth: u16, rank: u16, out: &mut [
     if out.len() < ShortTag::LENGTH {
         return WriteAnswer::Refused(Refusal::by(8));
     }
-    let tag = ShortTag {
+    let tag = Tag {
         plan,
         component,
         depth,
         rank,
+        last: 0,
     };
-    if !within_limit(tag.with_last(0)) {
+    if !within_limit(tag) {
         return WriteAnswer::Refused(Refusal::by(10));
     }
     put_short(tag, out);

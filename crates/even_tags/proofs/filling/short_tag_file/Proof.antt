@@ -1,6 +1,6 @@
 -- `even_tags::filling::short_tag_file` meets its contract: the refusal of the parents, or the tags that are made of them.
 -- Assumes nothing.
-use mathlib.Core.Path.{refl, sym, _∙_}
+use mathlib.Core.Path.{refl}
 use Rattle.sequences.proofs.Table.{overwritten-holds}
 use Rattle.plan.specs.File.{planNumber}
 use Rattle.minutes.specs.SingleTable.{afterTable}

@@ -1,18 +1,13 @@
 -- `tag_bytes::writer::put` meets its contract: the short tag, and the fifth number right behind it.
 -- Assumes nothing.
-use mathlib.Core.Path.{_∙_}
-use native.Mathlib.Omega.{arith}
-use Rattle.tag_bytes.specs.Fields.{numbers, shortNumbers, withLast, shortOf, shortBytes}
+use Rattle.tag_bytes.specs.Fields.{numbers}
 use Rattle.tag_bytes.proofs.Writing.{tag-front}
 use borrow.Author.Needs.{needs}
 use Rattle.tag_bytes.proofs.writer.put.Statement.{statement}
 use Rattle.tag_bytes.proofs.writer.put.Tie as tie
 
-short-requires : tie.Need-short-requires
-short-requires c κs = search needs
-
 put-short-requires : tie.Need-put-short-requires
-put-short-requires c κs = omega (arith, c .before .before .before .pre)
+put-short-requires c κs = search needs
 
 write-u16-requires : tie.Need-write-u16-requires
 write-u16-requires c κs = search needs
@@ -21,10 +16,9 @@ same-length : tie.Need-same-length
 same-length c = search needs
 
 returns : tie.Need-returns
-unfolding numbers shortNumbers withLast shortOf shortBytes
-returns c = let d = c .before .before in
-    let e = d .before .before .before .before in
-    tag-front _ _ _ _ (e .before .before .before .before .pre) (rw (e .before .before .short .ensures) at (e .put-short .ensures)) (d .write-u16 .ensures)
+unfolding numbers
+returns c = let d = c .before .before in let e = d .before .before .before .before in
+    tag-front _ _ _ _ (e .before .before .before .pre) (e .put-short .ensures) (d .write-u16 .ensures)
 
 pub put-spec : {M : Type 1} → statement M
-put-spec = tie.close (tie.spec short-requires put-short-requires write-u16-requires same-length returns)
+put-spec = tie.close (tie.spec put-short-requires write-u16-requires same-length returns)

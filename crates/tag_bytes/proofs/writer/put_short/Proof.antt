@@ -1,6 +1,6 @@
 -- `tag_bytes::writer::put_short` meets its contract: each number is written right behind the one before.
 -- Assumes nothing.
-use Rattle.tag_bytes.specs.Fields.{numbers, withLast, shortNumbers}
+use Rattle.tag_bytes.specs.Fields.{numbers}
 use Rattle.tag_bytes.proofs.Writing.{short-front}
 use borrow.Author.Needs.{needs}
 use Rattle.tag_bytes.proofs.writer.put_short.Statement.{statement}
@@ -22,7 +22,7 @@ same-length : tie.Need-same-length
 same-length c = search needs
 
 returns : tie.Need-returns
-unfolding numbers withLast shortNumbers
+unfolding numbers
 returns c = let fourth = c .before .before in
     let third = fourth .before .before .before .before in
     let second = third .before .before .before .before in

@@ -1,10 +1,9 @@
--- `tag_bytes::writer::short_write` meets its contract: room is asked for, then the limit of the fields, and a refusal alters
--- nothing.
+-- `tag_bytes::writer::short_write` meets its contract: room is asked for, then the limit of the fields, and a refusal alters nothing.
 -- Assumes nothing.
 use mathlib.Core.Path.{sym, ap, _∙_}
 use borrow.Author.Tests.{not-true, not-false}
 use Rattle.tag_bytes.specs.declared.writer.WriteAnswer.the-variants.{Refused}
-use Rattle.tag_bytes.specs.Fields.{numbers, shortNumbers, withLast, withinLimit}
+use Rattle.tag_bytes.specs.Fields.{numbers}
 use Rattle.tag_bytes.specs.Writing.{afterShortWrite}
 use Rattle.tag_bytes.proofs.Writing.{short-write-8, short-write-10, short-write-written, short-refused-after}
 use borrow.Author.Needs.{needs}
@@ -17,9 +16,6 @@ by-requires c κs = search needs
 returns : tie.Need-returns
 returns c = (ap Refused (c .by .ensures) ∙ short-write-8 _ _ (c .before .if1 .taken), short-refused-after _ _ _)
 
-with-last-requires : tie.Need-with-last-requires
-with-last-requires c κs = search needs
-
 within-limit-requires : tie.Need-within-limit-requires
 within-limit-requires c κs = search needs
 
@@ -27,29 +23,25 @@ by-requires-2 : tie.Need-by-requires-2
 by-requires-2 c κs = search needs
 
 returns-2 : tie.Need-returns-2
-unfolding numbers withLast
-returns-2 c = let d = c .before .before in (
+unfolding numbers
+returns-2 c = (
   ap Refused (c .by2 .ensures)
-      ∙ short-write-10 _ _ (d .before .before .if1 .left)
-      (ap (λ t. withinLimit (numbers t)) (sym (d .before .with-last .ensures)) ∙ (sym (d .within-limit .ensures) ∙ not-true _ (c .before .if2 .taken))),
+      ∙ short-write-10 _ _ (c .before .before .before .if1 .left) (sym (c .before .before .within-limit .ensures) ∙ not-true _ (c .before .if2 .taken)),
   short-refused-after _ _ _,
 )
 
 put-short-requires : tie.Need-put-short-requires
-put-short-requires c κs = c .before .before .before .before .if1 .left
+put-short-requires c κs = c .before .before .before .if1 .left
 
 same-length : tie.Need-same-length
 same-length c = search needs
 
 returns-3 : tie.Need-returns-3
-unfolding numbers withLast shortNumbers afterShortWrite
+unfolding numbers afterShortWrite
 returns-3 c = let d = c .before .before .before .before in (
-  short-write-written _ _ (d .before .before .before .if1 .left)
-      (ap (λ t. withinLimit (numbers t)) (sym (d .before .before .with-last .ensures)) ∙ (sym (d .before .within-limit .ensures) ∙ not-false _ (d .if2 .left))),
+  short-write-written _ _ (d .before .before .if1 .left) (sym (d .before .within-limit .ensures) ∙ not-false _ (d .if2 .left)),
   c .before .before .put-short .ensures,
 )
 
 pub short-write-spec : {M : Type 1} → statement M
-short-write-spec =
-    tie.close (tie.spec by-requires returns with-last-requires within-limit-requires by-requires-2 returns-2 put-short-requires
-    same-length returns-3)
+short-write-spec = tie.close (tie.spec by-requires returns within-limit-requires by-requires-2 returns-2 put-short-requires same-length returns-3)

@@ -1,7 +1,6 @@
 -- `tag_bytes::reader::ShortTag::read` meets its contract: the length is asked for, then the limit of the fields.
 -- Assumes nothing.
-use mathlib.Core.Path.{_≡_, sym, ap, _∙_}
-use mathlib.Core.Bool.{Bool}
+use mathlib.Core.Path.{sym, ap, _∙_}
 use borrow.Author.Tests.{not-true, not-false}
 use Rattle.tag_bytes.specs.declared.reader.ShortRead.the-variants.{Refused}
 use Rattle.tag_bytes.specs.Fields.{shortNumbers, numbers, withinLimit}
