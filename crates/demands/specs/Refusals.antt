@@ -10,7 +10,7 @@ use Rattle.plan.specs.Validation.{planQuestions, validateAnswerOf}
 use Rattle.plan.specs.declared.questions.Validation.the-variants as Validation
 use Rattle.tag_bytes.specs.{Reading.readQuestions, Reading.readAnswerOf, Writing.writeQuestions, Writing.writeAnswerOf, Writing.afterWrite}
 use Rattle.tag_bytes.specs.TagFile.{lookupQuestions, lookupAnswerOf, lookupPart}
-use Rattle.tag_bytes.specs.{Reading.shortReadQuestions, Reading.shortReadAnswerOf}
+use Rattle.tag_bytes.specs.{declared.reader.ShortTag.ShortTag, Reading.shortReadQuestions, Reading.shortReadAnswerOf}
 use Rattle.tag_bytes.specs.{Writing.shortWriteQuestions, Writing.shortWriteAnswerOf, Writing.afterShortWrite}
 use Rattle.tag_bytes.specs.declared.reader.TagRead.the-variants as TagRead
 use Rattle.tag_bytes.specs.declared.reader.ShortRead.the-variants as ShortRead
@@ -71,7 +71,7 @@ pub record Demand1 : Type 0 where
       (file : List ℕ) (room : ℕ) → Refuses (evenTableQuestions file room) TableAnswer.Refused (evenTableAnswerOf file room)
   pub short-reading : (bytes : List ℕ) → Refuses (shortReadQuestions bytes) ShortRead.Refused (shortReadAnswerOf bytes)
   pub short-writing :
-      (n : Numbers) (out : List ℕ) → Refuses (shortWriteQuestions n out) WriteAnswer.Refused (shortWriteAnswerOf n out)
+      (t : ShortTag) (out : List ℕ) → Refuses (shortWriteQuestions t out) WriteAnswer.Refused (shortWriteAnswerOf t out)
   pub short-pairing :
       (first second : List ℕ) → Refuses (shortPairQuestions first second) PairAnswer.Refused (shortPairAnswerOf first second)
   pub short-pairing-at :
@@ -84,6 +84,6 @@ pub record Demand1 : Type 0 where
   pub chain-untouched : (r : Refusal) (l before : List ℕ) → afterChain (ChainAnswer.Refused r) l before ≡ before
   pub neighbours-untouched : (r : Refusal) (l before : List ℕ) → afterNeighbours (NeighboursAnswer.Refused r) l before ≡ before
   pub write-untouched : (r : Refusal) (n : Numbers) (before : List ℕ) → afterWrite (WriteAnswer.Refused r) n before ≡ before
-  pub short-write-untouched : (r : Refusal) (n : Numbers) (before : List ℕ) → afterShortWrite (WriteAnswer.Refused r) n before ≡ before
+  pub short-write-untouched : (r : Refusal) (t : ShortTag) (before : List ℕ) → afterShortWrite (WriteAnswer.Refused r) t before ≡ before
   -- "A refused lookup hands back an empty part".
   pub lookup-empty : (tags : List ℕ) (at : ℕ) (r : Refusal) → lookupAnswerOf tags at ≡ LookupAnswer.Refused r → lookupPart tags at ≡ []

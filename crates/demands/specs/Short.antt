@@ -4,10 +4,10 @@ use Prim.Native.Nat.{ℕ, suc, _*_, _≤_, _<_}
 use mathlib.Core.{Path._≡_, Logic._↔_, List.List, List._++_}
 use lib.ListN.{length, getD, take, drop}
 use Rattle.sequences.specs.Table.{overwritten}
-use Rattle.interval_graph.specs.{Chain.Joined, Chain.LeastHandovers, Numbers.Numbers, Numbers.numbersOf}
+use Rattle.interval_graph.specs.{Chain.Joined, Chain.LeastHandovers, Numbers.numbersOf}
 use Rattle.plan.specs.{File.planNumber, File.windowCount, File.windowAt, File.endOf, Overlap.overlaps}
 use Rattle.plan.specs.{Validation.AcceptedPlan, Even.EvenPlan}
-use Rattle.tag_bytes.specs.{declared.reader.ShortTag.ShortTag, Fields.shortLength, Fields.shortTagWith, Fields.shortNumbers}
+use Rattle.tag_bytes.specs.{declared.reader.ShortTag.ShortTag, Fields.shortLength, Fields.shortTagWith}
 use Rattle.tag_bytes.specs.{Reading.shortReadAnswerOf, Writing.shortWriteAnswerOf, Writing.afterShortWrite}
 use Rattle.tag_bytes.specs.TagFile.{partOf, shortTagFile}
 use Rattle.tag_bytes.specs.declared.reader.ShortRead.the-variants as ShortRead
@@ -71,12 +71,12 @@ pub record ShortTags : Type 0 where
       ≡ ShortRead.Valid (shortTagWith (numbersOf (windowCount file) (overlaps file) (planNumber file) v))
   -- A written short tag reads back as the same four numbers, and eight bytes that read as one are written back the same.
   pub reads-back :
-      (n : Numbers) (out : List ℕ) → shortWriteAnswerOf n out ≡ WriteAnswer.Written →
-      shortReadAnswerOf (take shortLength (afterShortWrite (shortWriteAnswerOf n out) n out)) ≡ ShortRead.Valid (shortTagWith n)
+      (t : ShortTag) (out : List ℕ) → shortWriteAnswerOf t out ≡ WriteAnswer.Written →
+      shortReadAnswerOf (take shortLength (afterShortWrite (shortWriteAnswerOf t out) t out)) ≡ ShortRead.Valid t
   pub writes-back :
       (bytes : List ℕ) (t : ShortTag) (out : List ℕ) → ((i : ℕ) → getD bytes i 0 < 256) →
       shortReadAnswerOf bytes ≡ ShortRead.Valid t → shortLength ≤ length out →
-      afterShortWrite (shortWriteAnswerOf (shortNumbers t) out) (shortNumbers t) out ≡ bytes ++ drop shortLength out
+      afterShortWrite (shortWriteAnswerOf t out) t out ≡ bytes ++ drop shortLength out
   -- Two short tags that can be read answer alike in either order, whatever plan they come from.
   pub either-order :
       (first second : List ℕ) (a b : ShortTag) → shortReadAnswerOf first ≡ ShortRead.Valid a →

@@ -90,8 +90,8 @@ pub extern "C" fn poddreshi_short_write(
     rank: u16,
     out: &mut [u8],
 ) -> u64
-    ensures { λ r. ⌜ r ≡ packedWrite (shortWriteAnswerOf (record { plan = plan; component = component; depth = depth; rank = rank; last = 0 }) (now (out .entry))) ⌝ }
-    ensures { λ _. ⌜ now (out .exit) ≡ afterShortWrite (shortWriteAnswerOf (record { plan = plan; component = component; depth = depth; rank = rank; last = 0 }) (now (out .entry))) (record { plan = plan; component = component; depth = depth; rank = rank; last = 0 }) (now (out .entry)) ⌝ }
+    ensures { λ r. ⌜ r ≡ packedWrite (shortWriteAnswerOf (record { plan = plan; component = component; depth = depth; rank = rank }) (now (out .entry))) ⌝ }
+    ensures { λ _. ⌜ now (out .exit) ≡ afterShortWrite (shortWriteAnswerOf (record { plan = plan; component = component; depth = depth; rank = rank }) (now (out .entry))) (record { plan = plan; component = component; depth = depth; rank = rank }) (now (out .entry)) ⌝ }
 {
     pack_write(short_tag::short_write(plan, component, depth, rank, out))
 }

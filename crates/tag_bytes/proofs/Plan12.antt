@@ -65,13 +65,13 @@ pub short-refusals : shortReadAnswerOf (12 ∷ 0 ∷ 0 ∷ 8 ∷ 0 ∷ 0 ∷ 0 �
 unfolding meaning
 short-refusals = refl
 
-pub short-room-first : shortWriteAnswerOf (record { plan = 12; component = 0; depth = 0; rank = 2048; last = 0 }) (0 ∷ 0 ∷ 0 ∷ 0 ∷ 0 ∷ 0 ∷ 0 ∷ [])
+pub short-room-first : shortWriteAnswerOf (record { plan = 12; component = 0; depth = 0; rank = 2048 }) (0 ∷ 0 ∷ 0 ∷ 0 ∷ 0 ∷ 0 ∷ 0 ∷ [])
     ≡ write.Refused (refusalBy 8)
 unfolding meaning shortWriteAnswerOf shortWriteQuestions roomQuestion
 short-room-first = refl
 
 -- Eight bytes are written and the ninth stays.
-pub short-written : afterShortWrite write.Written (record { plan = 12; component = 1; depth = 2; rank = 1027; last = 0 })
+pub short-written : afterShortWrite write.Written (record { plan = 12; component = 1; depth = 2; rank = 1027 })
     (9 ∷ 9 ∷ 9 ∷ 9 ∷ 9 ∷ 9 ∷ 9 ∷ 9 ∷ 9 ∷ []) ≡ 12 ∷ 0 ∷ 1 ∷ 0 ∷ 2 ∷ 0 ∷ 3 ∷ 4 ∷ 9 ∷ []
 unfolding meaning afterShortWrite overwritten
 short-written = refl

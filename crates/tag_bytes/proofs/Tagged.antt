@@ -12,10 +12,10 @@ use Rattle.sequences.proofs.Table.{length-overwritten, length-table}
 use Rattle.sequences.proofs.Records.{length-records, records-turn}
 use Rattle.interval_graph.specs.Numbers.{Numbers}
 use Rattle.tag_bytes.specs.declared.writer.WriteAnswer.{WriteAnswer}
-use Rattle.tag_bytes.specs.Fields.{tagLength, tagBytes, withinLimit, shortLength, shortBytes}
+use Rattle.tag_bytes.specs.Fields.{tagLength, tagBytes, numbers, withinLimit, shortLength, shortTagWith, withLast, shortNumbers, shortBytes}
 use Rattle.tag_bytes.specs.Writing.{writeAnswerOf, afterWrite, shortWriteAnswerOf, afterShortWrite}
-use Rattle.tag_bytes.proofs.Fields.{length-tagBytes, length-shortBytes}
-use Rattle.tag_bytes.proofs.Writing.{write-puts, short-write-puts}
+use Rattle.tag_bytes.proofs.Fields.{length-tagBytes, length-shortBytes, shortNumbers-shortTagWith}
+use Rattle.tag_bytes.proofs.Writing.{write-puts, short-write-puts, within-short}
 
 -- A part that goes to the end of a list is what is left from its start on, and put back it is all that follows there.
 part-to-end : (a : ℕ) (l : List ℕ) → take (length l - a) (drop a l) ≡ drop a l
@@ -64,6 +64,11 @@ module _ (bytesOf : Numbers → List ℕ) (wide : ℕ) (each : (n : Numbers) →
           put-to-end (wide * v) tags part (omega (arith, s .long, room)) ∙ (ap (λ (l : List ℕ). take (wide * v) tags ++ l) put
           ∙ rw (part-to-end (wide * v) tags, s .written, add-one v) (records-turn bytesOf wide each numbers v tags₀))
 
+-- The bytes of a short tag do not have the rank of the last.
+same-bytes : (n : Numbers) → shortBytes (shortNumbers (shortTagWith n)) ≡ shortBytes n
+unfolding shortBytes shortNumbers numbers withLast shortTagWith
+same-bytes n = refl
+
 -- So it goes with the calls that write a tag, where its numbers are within the limit.
 module _ (numbers : ℕ → Numbers) (windows v : ℕ) (h : v < windows) (fit : withinLimit (numbers v) ≡ true) (tags₀ tags part : List ℕ) (answer : WriteAnswer) where
   pub tag-turn : tagLength * windows ≤ length tags₀ →
@@ -75,10 +80,11 @@ module _ (numbers : ℕ → Numbers) (windows v : ℕ) (h : v < windows) (fit : 
       (write-puts (numbers v) _ part answer (part-room (tagLength * v) tagLength tags (omega (arith, s .long))) fit answered stored) s
 
   pub short-turn : shortLength * windows ≤ length tags₀ →
-      answer ≡ shortWriteAnswerOf (numbers v) (take (length tags - shortLength * v) (drop (shortLength * v) tags)) →
-      part ≡ afterShortWrite answer (numbers v) (take (length tags - shortLength * v) (drop (shortLength * v) tags)) →
+      answer ≡ shortWriteAnswerOf (shortTagWith (numbers v)) (take (length tags - shortLength * v) (drop (shortLength * v) tags)) →
+      part ≡ afterShortWrite answer (shortTagWith (numbers v)) (take (length tags - shortLength * v) (drop (shortLength * v) tags)) →
       Tagged shortBytes numbers windows tags₀ tags v →
       Tagged shortBytes numbers windows tags₀ (putMid (shortLength * v) (length tags - shortLength * v) tags part) (v + 1)
   short-turn room answered stored s =
       tagged-turn shortBytes shortLength length-shortBytes numbers windows v h tags₀ tags part (omega arith)
-      (short-write-puts (numbers v) _ part answer (part-room (shortLength * v) shortLength tags (omega (arith, s .long))) fit answered stored) s
+      (short-write-puts (shortTagWith (numbers v)) _ part answer (part-room (shortLength * v) shortLength tags (omega (arith, s .long)))
+      (rw (shortNumbers-shortTagWith (numbers v)) (within-short (numbers v) fit)) answered stored ∙ ap (overwritten _) (same-bytes (numbers v))) s

@@ -22,7 +22,7 @@ use Rattle.tag_bytes.specs.declared.writer.WriteAnswer.{WriteAnswer}
 use Rattle.tag_bytes.specs.declared.writer.WriteAnswer.the-variants.{Written, Refused}
 use Rattle.tag_bytes.specs.declared.reader.ShortTag.{ShortTag}
 use Rattle.tag_bytes.specs.declared.reader.ShortRead.the-variants as shortRead
-use Rattle.tag_bytes.specs.Fields.{tagLength, numbers, tagWith, tagBytes, withinLimit, shortLength, shortTagWith, shortNumbers, shortBytes}
+use Rattle.tag_bytes.specs.Fields.{tagLength, numbers, tagWith, tagBytes, withinLimit, shortLength, shortTagWith, withLast, shortNumbers, shortBytes}
 use Rattle.tag_bytes.specs.Reading.{readAnswerOf, shortReadAnswerOf}
 use Rattle.tag_bytes.specs.Writing.{putQuestions, writeQuestions, writeAnswerOf, afterWrite}
 use Rattle.tag_bytes.specs.Writing.{shortWriteQuestions, shortWriteAnswerOf, afterShortWrite}
@@ -69,17 +69,23 @@ module _ (n : Numbers) (out : List ℕ) where
   unfolding writeAnswerOf writeQuestions
   write-written = put-written tagLength n out
 
-  pub short-write-8 : length out < shortLength → Refused (refusalBy 8) ≡ shortWriteAnswerOf n out
+module _ (t : ShortTag) (out : List ℕ) where
+  pub short-write-8 : length out < shortLength → Refused (refusalBy 8) ≡ shortWriteAnswerOf t out
   unfolding shortWriteAnswerOf shortWriteQuestions
-  short-write-8 = put-8 shortLength n out
+  short-write-8 = put-8 shortLength (shortNumbers t) out
 
-  pub short-write-10 : shortLength ≤ length out → withinLimit n ≡ false → Refused (refusalBy 10) ≡ shortWriteAnswerOf n out
+  pub short-write-10 : shortLength ≤ length out → withinLimit (shortNumbers t) ≡ false → Refused (refusalBy 10) ≡ shortWriteAnswerOf t out
   unfolding shortWriteAnswerOf shortWriteQuestions
-  short-write-10 = put-10 shortLength n out
+  short-write-10 = put-10 shortLength (shortNumbers t) out
 
-  pub short-write-written : shortLength ≤ length out → withinLimit n ≡ true → Written ≡ shortWriteAnswerOf n out
+  pub short-write-written : shortLength ≤ length out → withinLimit (shortNumbers t) ≡ true → Written ≡ shortWriteAnswerOf t out
   unfolding shortWriteAnswerOf shortWriteQuestions
-  short-write-written = put-written shortLength n out
+  short-write-written = put-written shortLength (shortNumbers t) out
+
+  -- A refusal leaves the table as it was.
+  pub short-refused-after : (r : Refusal) → out ≡ afterShortWrite (Refused r) t out
+  unfolding afterShortWrite
+  short-refused-after r = refl
 
 -- The front of a table that a tag was written to is the tag.
 at-front : (bytesOf : Numbers → List ℕ) (wide : ℕ) → ((n : Numbers) → length (bytesOf n) ≡ wide) → (n : Numbers) (out : List ℕ) →
@@ -117,20 +123,16 @@ module _ (n : Numbers) (out : List ℕ) where
   unfolding afterWrite
   refused-after r = refl
 
-  pub short-refused-after : (r : Refusal) → out ≡ afterShortWrite (Refused r) n out
-  unfolding afterShortWrite
-  short-refused-after r = refl
-
 -- What fits is written.
 pub write-puts : (n : Numbers) (out part : List ℕ) (answer : WriteAnswer) → tagLength ≤ length out → withinLimit n ≡ true →
     answer ≡ writeAnswerOf n out → part ≡ afterWrite answer n out → part ≡ overwritten out (tagBytes n)
 unfolding afterWrite
 write-puts n out part answer room within answered stored = stored ∙ rw (answered ∙ sym (write-written n out room within))
 
-pub short-write-puts : (n : Numbers) (out part : List ℕ) (answer : WriteAnswer) → shortLength ≤ length out → withinLimit n ≡ true →
-    answer ≡ shortWriteAnswerOf n out → part ≡ afterShortWrite answer n out → part ≡ overwritten out (shortBytes n)
+pub short-write-puts : (t : ShortTag) (out part : List ℕ) (answer : WriteAnswer) → shortLength ≤ length out → withinLimit (shortNumbers t) ≡ true →
+    answer ≡ shortWriteAnswerOf t out → part ≡ afterShortWrite answer t out → part ≡ overwritten out (shortBytes (shortNumbers t))
 unfolding afterShortWrite
-short-write-puts n out part answer room within answered stored = stored ∙ rw (answered ∙ sym (short-write-written n out room within))
+short-write-puts t out part answer room within answered stored = stored ∙ rw (answered ∙ sym (short-write-written t out room within))
 
 -- The bytes of a tag within the limit read as that tag.
 pub tagBytes-read : (n : Numbers) → withinLimit n ≡ true → readAnswerOf (tagBytes n) ≡ Valid (tagWith n)
@@ -173,17 +175,27 @@ within-short n within =
     let w = within-limit n within in
     limit-within _ (record { component = w .component; depth = w .depth; rank = w .rank; last = omega arith })
 
-pub short-reads-back : (n : Numbers) (out : List ℕ) → shortWriteAnswerOf n out ≡ Written →
-    shortReadAnswerOf (take shortLength (afterShortWrite (shortWriteAnswerOf n out) n out)) ≡ shortRead.Valid (shortTagWith n)
+-- A short tag has the numbers that it is made of.
+shortTagWith-shortNumbers : (t : ShortTag) → shortTagWith (shortNumbers t) ≡ t
+unfolding shortTagWith shortNumbers numbers withLast
+shortTagWith-shortNumbers t = refl
+
+short-shortNumbers : (t : ShortTag) → short (shortNumbers t) ≡ shortNumbers t
+unfolding short shortNumbers numbers withLast
+short-shortNumbers t = refl
+
+pub short-reads-back : (t : ShortTag) (out : List ℕ) → shortWriteAnswerOf t out ≡ Written →
+    shortReadAnswerOf (take shortLength (afterShortWrite (shortWriteAnswerOf t out) t out)) ≡ shortRead.Valid t
 unfolding afterShortWrite shortWriteAnswerOf shortWriteQuestions
-short-reads-back n out e =
+short-reads-back t out e =
+    let n = shortNumbers t in
     rw (e, at-front shortBytes shortLength length-shortBytes n out)
-    (shortBytes-read n (within-short n (written-fits shortLength n out e .1)))
+    (shortBytes-read n (rw (short-shortNumbers t) (written-fits shortLength n out e .1)) ∙ rw (shortTagWith-shortNumbers t))
 
 pub short-writes-back : (bytes : List ℕ) (t : ShortTag) (out : List ℕ) → ((i : ℕ) → getD bytes i 0 < 256) → shortReadAnswerOf bytes ≡ shortRead.Valid t →
-    shortLength ≤ length out → afterShortWrite (shortWriteAnswerOf (shortNumbers t) out) (shortNumbers t) out ≡ bytes ++ drop shortLength out
-unfolding afterShortWrite shortWriteAnswerOf shortWriteQuestions overwritten
+    shortLength ≤ length out → afterShortWrite (shortWriteAnswerOf t out) t out ≡ bytes ++ drop shortLength out
+unfolding afterShortWrite overwritten
 short-writes-back bytes t out small e room =
     let r = short-valid-reads bytes t e in
     let same : shortBytes (shortNumbers t) ≡ bytes = rw (r .holds) (shortBytes-shortTagOf bytes small (r .long)) in
-    rw (sym (put-written shortLength (shortNumbers t) out room (r .within)), length-shortBytes (shortNumbers t), same)
+    rw (sym (short-write-written t out room (r .within)), length-shortBytes (shortNumbers t), same)

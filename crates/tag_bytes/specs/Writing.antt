@@ -6,9 +6,10 @@ use lib.ListN.{length}
 use Rattle.sequences.specs.Table.{overwritten}
 use Rattle.interval_graph.specs.Numbers.{Numbers}
 use Rattle.refusals.specs.Question.{Question, question, roomQuestion, firstNo}
+use Rattle.tag_bytes.specs.declared.reader.ShortTag.{ShortTag}
 use Rattle.tag_bytes.specs.declared.writer.WriteAnswer.{WriteAnswer}
 use Rattle.tag_bytes.specs.declared.writer.WriteAnswer.the-variants.{Written, Refused}
-use Rattle.tag_bytes.specs.Fields.{tagLength, shortLength, tagBytes, shortBytes, withinLimit}
+use Rattle.tag_bytes.specs.Fields.{tagLength, shortLength, tagBytes, shortNumbers, shortBytes, withinLimit}
 
 -- "8. Does each table hold what is to be written …?
 --  10. Is each field after the plan number at most 2,047?", of a tag that has so many bytes.
@@ -27,13 +28,13 @@ unfoldable pub afterWrite : WriteAnswer → Numbers → List ℕ → List ℕ
 afterWrite Written n out = overwritten out (tagBytes n)
 afterWrite (Refused r) n out = out
 
--- The same of a short tag, for every four numbers (Q-1).
-unfoldable pub shortWriteQuestions : Numbers → List ℕ → List Question
-shortWriteQuestions n out = putQuestions shortLength n out
+-- The same for every four numbers (Q-1).
+unfoldable pub shortWriteQuestions : ShortTag → List ℕ → List Question
+shortWriteQuestions t out = putQuestions shortLength (shortNumbers t) out
 
-unfoldable pub shortWriteAnswerOf : Numbers → List ℕ → WriteAnswer
-shortWriteAnswerOf n out = firstNo (shortWriteQuestions n out) Refused Written
+unfoldable pub shortWriteAnswerOf : ShortTag → List ℕ → WriteAnswer
+shortWriteAnswerOf t out = firstNo (shortWriteQuestions t out) Refused Written
 
-unfoldable pub afterShortWrite : WriteAnswer → Numbers → List ℕ → List ℕ
-afterShortWrite Written n out = overwritten out (shortBytes n)
-afterShortWrite (Refused r) n out = out
+unfoldable pub afterShortWrite : WriteAnswer → ShortTag → List ℕ → List ℕ
+afterShortWrite Written t out = overwritten out (shortBytes (shortNumbers t))
+afterShortWrite (Refused r) t out = out

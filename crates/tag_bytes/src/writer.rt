@@ -66,8 +66,8 @@ pub fn write(
 
 // Fills the first eight bytes of `out` with a short tag.
 pub fn short_write(plan: u16, component: u16, depth: u16, rank: u16, out: &mut [u8]) -> WriteAnswer
-    ensures { λ r. ⌜ r ≡ shortWriteAnswerOf (record { plan = plan; component = component; depth = depth; rank = rank; last = 0 }) (now (out .entry)) ⌝ }
-    ensures { λ r. ⌜ now (out .exit) ≡ afterShortWrite r (record { plan = plan; component = component; depth = depth; rank = rank; last = 0 }) (now (out .entry)) ⌝ }
+    ensures { λ r. ⌜ r ≡ shortWriteAnswerOf (record { plan = plan; component = component; depth = depth; rank = rank }) (now (out .entry)) ⌝ }
+    ensures { λ r. ⌜ now (out .exit) ≡ afterShortWrite r (record { plan = plan; component = component; depth = depth; rank = rank }) (now (out .entry)) ⌝ }
 {
     if out.len() < ShortTag::LENGTH {
         return WriteAnswer::Refused(Refusal::by(8));

@@ -2,7 +2,7 @@
 -- windows.
 -- Assumes nothing.
 use Prim.Native.Nat.{_-_}
-use Rattle.tag_bytes.specs.Fields.{shortBytes}
+use Rattle.tag_bytes.specs.Fields.{shortTagWith, shortBytes}
 use Rattle.tag_bytes.specs.TagFile.{shortTagFile}
 use Rattle.tag_bytes.proofs.Tagged.{Tagged, tagged-start, short-turn, tagged-end}
 use Rattle.even_tags.specs.Tagging.{shortNumbersIn}
@@ -60,6 +60,7 @@ loop-less : tie.Need-loop-less Inv-loop μ-loop
 loop-less c = search needs
 
 loop-again : tie.Need-loop-again Inv-loop μ-loop
+unfolding shortTagWith
 loop-again c = let w = c .before .before .short-write .ensures in
     let d = c .before .before .before .before .before .before .before in
     let q = d .before .before .before .before .before .before .pre in

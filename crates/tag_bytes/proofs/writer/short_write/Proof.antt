@@ -3,7 +3,7 @@
 use mathlib.Core.Path.{sym, ap, _∙_}
 use borrow.Author.Tests.{not-true, not-false}
 use Rattle.tag_bytes.specs.declared.writer.WriteAnswer.the-variants.{Refused}
-use Rattle.tag_bytes.specs.Fields.{numbers}
+use Rattle.tag_bytes.specs.Fields.{numbers, withLast, shortNumbers}
 use Rattle.tag_bytes.specs.Writing.{afterShortWrite}
 use Rattle.tag_bytes.proofs.Writing.{short-write-8, short-write-10, short-write-written, short-refused-after}
 use borrow.Author.Needs.{needs}
@@ -23,7 +23,7 @@ by-requires-2 : tie.Need-by-requires-2
 by-requires-2 c κs = search needs
 
 returns-2 : tie.Need-returns-2
-unfolding numbers
+unfolding numbers withLast shortNumbers
 returns-2 c = (
   ap Refused (c .by2 .ensures)
       ∙ short-write-10 _ _ (c .before .before .before .if1 .left) (sym (c .before .before .within-limit .ensures) ∙ not-true _ (c .before .if2 .taken)),
@@ -37,7 +37,7 @@ same-length : tie.Need-same-length
 same-length c = search needs
 
 returns-3 : tie.Need-returns-3
-unfolding numbers afterShortWrite
+unfolding numbers withLast shortNumbers afterShortWrite
 returns-3 c = let d = c .before .before .before .before in (
   short-write-written _ _ (d .before .before .if1 .left) (sym (d .before .within-limit .ensures) ∙ not-false _ (d .if2 .left)),
   c .before .before .put-short .ensures,
