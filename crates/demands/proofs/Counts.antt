@@ -13,7 +13,7 @@ use Rattle.sequences.proofs.Table.{take-overwritten}
 use Rattle.interval_graph.specs.Order.{IntervalOrder}
 use Rattle.interval_graph.specs.Chain.{handovers, Joined, LeastHandovers}
 use Rattle.interval_graph.specs.Tree.{root, component, rank}
-use Rattle.interval_graph.specs.Numbers.{numbersOf, Outcome, apart, no-chain, outcome}
+use Rattle.interval_graph.specs.Numbers.{Numbers, numbersOf, Outcome, apart, no-chain, outcome}
 use Rattle.interval_graph.proofs.Outcome.{equal-refl}
 use Rattle.interval_graph.proofs.Rule.{outcome-apart, outcome-no-chain, same-window}
 use Rattle.interval_graph.proofs.ShortestChain.{chain-least, chain-earliest-shortest, chain-first}
@@ -72,16 +72,16 @@ module _ (file : List ℕ) (ok : AcceptedPlan file) (u v : ℕ) (hu : u < window
   order : IntervalOrder (windowCount file) (overlaps file)
   order = interval-order file ok
 
-  -- Questions 11 and 12 pass for two windows of one plan: windows of one component and rank are one window.
-  agree : agreeing (numbersAt file u) (numbersAt file v) ≡ true
-  unfolding agreeing numbersAt numbersOf
-  agree =
-      cond-cases (λ b. b ≡ true) (eqb (component (overlaps file) u) (component (overlaps file) v) && eqb (rank (windowCount file) (overlaps file) u)
-      (rank (windowCount file) (overlaps file) v))
+  -- Question 12 passes for two windows of one plan, by tags of either form: windows of one component and rank are one window.
+  pub agree : (of : ℕ → Numbers) → ((w : ℕ) → of w .component ≡ component (overlaps file) w) →
+      ((w : ℕ) → of w .rank ≡ rank (windowCount file) (overlaps file) w) → agreeing (of u) (of v) ≡ true
+  unfolding agreeing
+  agree of components ranks =
+      cond-cases (λ b. b ≡ true) (eqb (of u .component) (of v .component) && eqb (of u .rank) (of v .rank))
       (λ t.
-      let one : u ≡ v = same-window order u v hu hv (eqb-true _ _ (and-left _ _ t))
-      (eqb-true _ _ (and-right (eqb (component (overlaps file) u) (component (overlaps file) v)) _ t)) in
-      rw one (equal-refl (numbersAt file v))) (λ t. refl)
+      let one : u ≡ v = same-window order u v hu hv (sym (components u) ∙ (eqb-true _ _ (and-left _ _ t) ∙ components v))
+      (sym (ranks u) ∙ (eqb-true _ _ (and-right (eqb (of u .component) (of v .component)) _ t) ∙ ranks v)) in
+      rw one (equal-refl (of v))) (λ t. refl)
 
   -- So the answer from the two tags is what the rule says.
   pub pair-rule : pairAnswerOf (tagAt file u) (tagAt file v)
@@ -90,7 +90,7 @@ module _ (file : List ℕ) (ok : AcceptedPlan file) (u v : ℕ) (hu : u < window
   unfolding tagAt numbersAt numbersOf comparedBy compareQuestions question from firstNo
   pair-rule =
       pair-tagFile (numbersAt file) (windowCount file) u v hu hv (window-within file ok u hu) (window-within file ok v hv)
-      ∙ rw (eq-eqb (planNumber file) (planNumber file) refl, agree)
+      ∙ rw (eq-eqb (planNumber file) (planNumber file) refl, agree (numbersAt file) (λ w. refl) (λ w. refl))
 
   -- The chain call asks only for room.
   chain-asked : (room : ℕ) → chainAnswerOf file u v room

@@ -1,22 +1,16 @@
 -- Q-1: the theory of short tags at the overlap of an even plan, and plan 12, of which the two pairs do not answer alike.
 -- Assumes nothing.
 use Prim.Native.Nat.{ℕ, _*_, _≤_, _<_}
-use mathlib.Core.{Bool.true, Bool._&&_, Path._≡_, Path.refl, Path.sym, Path.ap, Path._∙_, List.List, List.[]}
+use mathlib.Core.{Path._≡_, Path.refl, Path.sym, Path.ap, Path._∙_, List.List, List.[]}
 use native.Mathlib.Omega.{arith}
 use lib.ListN.{length}
-use lib.Dec.{eqb}
-use borrow.Author.Tests.{eqb-true, eq-eqb, le-leb}
-use Rattle.sequences.proofs.Tests.{and-left, and-right, cond-cases}
-use Rattle.interval_graph.specs.Tree.{component, rank}
+use borrow.Author.Tests.{eq-eqb, le-leb}
 use Rattle.interval_graph.specs.Numbers.{numbersOf, short, shortBetween, shortOutcome}
 use Rattle.interval_graph.proofs.Plan12.{definitions}
-use Rattle.interval_graph.proofs.Outcome.{equal-refl}
-use Rattle.interval_graph.proofs.Rule.{same-window}
 use Rattle.interval_graph.proofs.Even.{short-outcome}
 use Rattle.refusals.specs.Question.{question, from, roomQuestion, firstNo, allYes}
 use Rattle.refusals.proofs.Question.{first-append, all-first}
 use Rattle.plan.specs.File.{planNumber, windowCount}
-use Rattle.plan.specs.Overlap.{overlaps}
 use Rattle.plan.specs.Validation.{AcceptedPlan}
 use Rattle.plan.specs.Even.{evenQuestions}
 use Rattle.plan.proofs.Plan12.{meaning}
@@ -26,7 +20,7 @@ use Rattle.plan.proofs.Even.{even-ends, ends-even, even-lasts}
 use Rattle.tag_bytes.specs.Fields.{shortLength}
 use Rattle.tag_bytes.proofs.TagFile.{length-shortTagFile, shortTagFile-part}
 use Rattle.tag_bytes.proofs.Writing.{shortBytes-read, within-short, short-reads-back, short-writes-back}
-use Rattle.tag.specs.Pairing.{agreeing, compareQuestions, answerOf, comparedBy, pairAnswerOf}
+use Rattle.tag.specs.Pairing.{compareQuestions, answerOf, comparedBy, pairAnswerOf}
 use Rattle.short_tag.specs.ShortPairing.{shortPairAnswerOf}
 use Rattle.tag.specs.declared.pairs.PairAnswer.the-variants as PairAnswer
 use Rattle.short_tag.proofs.ShortPairing.{pair-shortBytes, short-pair-symmetric, short-at-found}
@@ -37,27 +31,16 @@ use Rattle.demands.specs.EndToEnd.{tagAt}
 use Rattle.demands.specs.Cases.{plan12}
 use Rattle.demands.specs.Short.{EndsRise, shortTagAt, ShortPairs, NeedsEven, ShortTags}
 use Rattle.demands.proofs.Tree.{window-within}
-use Rattle.demands.proofs.Counts.{pair-rule, demand-3}
+use Rattle.demands.proofs.Counts.{agree, pair-rule, demand-3}
 
 module _ (file : List ℕ) (ok : AcceptedPlan file) (u v : ℕ) (hu : u < windowCount file) (hv : v < windowCount file) where
-  -- Questions 11 and 12 pass for two windows of one plan.
-  short-agree : agreeing (short (numbersAt file u)) (short (numbersAt file v)) ≡ true
-  unfolding agreeing numbersAt numbersOf short
-  short-agree =
-      cond-cases (λ b. b ≡ true) (eqb (component (overlaps file) u) (component (overlaps file) v) && eqb (rank (windowCount file) (overlaps file) u)
-      (rank (windowCount file) (overlaps file) v))
-      (λ t.
-      let one : u ≡ v = same-window (interval-order file ok) u v hu hv (eqb-true _ _ (and-left _ _ t))
-      (eqb-true _ _ (and-right (eqb (component (overlaps file) u) (component (overlaps file) v)) _ t)) in
-      rw one (equal-refl (short (numbersAt file v)))) (λ t. refl)
-
   -- So the answer from two short tags is what their rule says.
   short-rule : shortPairAnswerOf (shortTagAt file u) (shortTagAt file v) ≡ answerOf (shortOutcome (short (numbersAt file u)) (short (numbersAt file v)))
   unfolding shortTagAt comparedBy compareQuestions question from firstNo numbersAt numbersOf short
   short-rule =
       rw (shortTagFile-part (numbersAt file) (windowCount file) u hu, shortTagFile-part (numbersAt file) (windowCount file) v hv)
       (pair-shortBytes (numbersAt file u) (numbersAt file v) (window-within file ok u hu) (window-within file ok v hv)
-      ∙ rw (eq-eqb (planNumber file) (planNumber file) refl, short-agree))
+      ∙ rw (eq-eqb (planNumber file) (planNumber file) refl, agree file ok u v hu hv (λ w. short (numbersAt file w)) (λ w. refl) (λ w. refl)))
 
 pub short-pairs : ShortPairs
 unfolding numbersAt shortTagAt
