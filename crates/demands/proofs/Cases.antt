@@ -1,4 +1,4 @@
--- Paper 01's cases marked P: one test over the table, and one law that turns the test into what a case says.
+-- Paper 01's cases marked P, and those of Q-2: one test over a table, and one law that turns the test into what a case says.
 -- Assumes nothing.
 use Prim.Native.Nat.{ℕ, _<_}
 use mathlib.Core.{Bool.Bool, Bool.true, Bool.false, Bool._&&_, Bool._||_, Path._≡_, Path.refl, Path.ap, Logic.inl, Logic.inr, Logic.⊎-elim}
@@ -11,7 +11,7 @@ use Rattle.interval_graph.specs.Walk.{climb, walk, chainOf}
 use Rattle.interval_graph.proofs.Plan12.{definitions}
 use Rattle.interval_graph.proofs.Rule.{outcome-apart, outcome-no-chain}
 use Rattle.refusals.specs.Question.{allYes}
-use Rattle.plan.specs.File.{windowCount, fileOf}
+use Rattle.plan.specs.File.{windowCount}
 use Rattle.plan.specs.Overlap.{overlaps}
 use Rattle.plan.specs.Validation.{planQuestions, AcceptedPlan}
 use Rattle.plan.proofs.Plan12.{meaning}
@@ -19,6 +19,7 @@ use Rattle.plan.proofs.Overlap.{interval-order}
 use Rattle.numbering.specs.Tables.{componentCount}
 use Rattle.path.specs.Chain.{chainBetween}
 use Rattle.demands.specs.Cases.{plan12, touching, overlapping, Case, cases, Says, CaseHolds, CasesHold}
+use Rattle.demands.specs.Minimum.{three, equals, minimumCases, MinimumCasesHold}
 
 sameOutcome : Outcome → Outcome → Bool
 sameOutcome (apart j) (apart k) = eqb j k
@@ -111,10 +112,10 @@ tests-hold (d ∷ l) t c m =
 pub cases-hold : CasesHold
 cases-hold = tests-hold cases cases-pass
 
--- Two windows (5, 5): the offsets are equal, the file's order counts, and they are one handover apart.
-abbrev equals : Case
-equals = (fileOf 0 (record { offset = 5; length = 5 } ∷ record { offset = 5; length = 5 } ∷ []), 1, 0, 1, apart 1, 1 ∷ 0 ∷ [])
+-- Q-2's cases pass, and so they hold.
+minimum-cases-pass : tests minimumCases ≡ true
+unfolding definitions meaning allYes componentCount climb walk chainOf chainBetween three equals minimumCases tests test found sameOutcome sameList
+minimum-cases-pass = refl
 
-pub equal-offsets : CaseHolds (equals .0) (equals .1) (equals .2) (equals .3) (equals .4) (equals .5)
-unfolding definitions meaning allYes componentCount climb walk chainOf chainBetween test found sameOutcome sameList
-equal-offsets = test-holds equals refl
+pub minimum-cases-hold : MinimumCasesHold
+minimum-cases-hold = tests-hold minimumCases minimum-cases-pass

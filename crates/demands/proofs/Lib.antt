@@ -1,11 +1,12 @@
--- The statements of specs/, proved: Refusals, Tree, EndToEnd (`demand-3`, in Counts), Calls, Short, Cases.
+-- The statements of specs/, proved: Refusals, Tree, EndToEnd (`demand-3`, in Counts), Calls, Short, Cases, Minimum.
 --   Refusals  demand 1
 --   Tree      demand 2
 --   Counts    demand 3, of the definitions that the calls answer by
 --   Running   what the call that runs everything needs of them
 --   Calls     reach and sameness
 --   Short     Q-1: short tags
---   Cases     the cases marked P
+--   Cases     the cases marked P, and those of Q-2
+--   Minimum   Q-2: the minimum handover
 pub mod Refusals
 pub mod Tree
 pub mod Counts
@@ -13,3 +14,4 @@ pub mod Running
 pub mod Calls
 pub mod Short
 pub mod Cases
+pub mod Minimum

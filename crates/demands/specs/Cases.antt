@@ -12,14 +12,14 @@ span offset length = record { offset = offset; length = length }
 
 -- "Plan 12: (0, 10) (2, 3) (4, 12) (9, 2) (12, 6) (17, 1) (18, 4)."
 unfoldable pub plan12 : List ℕ
-plan12 = fileOf 12 (span 0 10 ∷ span 2 3 ∷ span 4 12 ∷ span 9 2 ∷ span 12 6 ∷ span 17 1 ∷ span 18 4 ∷ [])
+plan12 = fileOf 12 1 (span 0 10 ∷ span 2 3 ∷ span 4 12 ∷ span 9 2 ∷ span 12 6 ∷ span 17 1 ∷ span 18 4 ∷ [])
 
 -- "P (0, 10) (10, 5) are two components. P (0, 11) (10, 5) are one."
 unfoldable pub touching : List ℕ
-touching = fileOf 0 (span 0 10 ∷ span 10 5 ∷ [])
+touching = fileOf 0 1 (span 0 10 ∷ span 10 5 ∷ [])
 
 unfoldable pub overlapping : List ℕ
-overlapping = fileOf 0 (span 0 11 ∷ span 10 5 ∷ [])
+overlapping = fileOf 0 1 (span 0 11 ∷ span 10 5 ∷ [])
 
 -- A row: a file, how many components it has, two of its windows, what is said of them, and the chain where the paper gives it (empty
 -- where it does not).

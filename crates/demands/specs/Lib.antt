@@ -24,10 +24,13 @@
 --   Short     paper 02, Q-1: short tags of even plans. What it says of their answers rests on nothing more; the rest of it on
 --             interval_graph/specs/Tree, up to rank, and on tag_bytes/specs/Fields
 --   Cases     paper 01's cases marked P, as one table
--- Merely named, and proved right: sizes and starts (Forest), Walk, Numbers (the rule on two tags), boundOf (Overlap).
+--   Minimum   paper 02, Q-2: the minimum handover. What it says of the plans of before rests on paper 01's overlap, `sharesMinute`
+--             (plan/specs/Overlap)
+-- Merely named, and proved right: sizes and starts (Forest), Walk, Numbers (the rule on two tags), overlapInOrder and boundOf (Overlap).
 pub mod EndToEnd
 pub mod Tree
 pub mod Refusals
 pub mod Calls
 pub mod Short
 pub mod Cases
+pub mod Minimum

@@ -18,7 +18,7 @@ window offset length = record { offset = offset; length = length }
 
 -- Ends 4, 6, 9 and 10.
 unfoldable pub even : List ℕ
-even = fileOf 5 (window 0 4 ∷ window 2 4 ∷ window 3 6 ∷ window 8 2 ∷ [])
+even = fileOf 5 1 (window 0 4 ∷ window 2 4 ∷ window 3 6 ∷ window 8 2 ∷ [])
 
 -- What a computation on the file opens.
 unfoldable answers : Unit {0}

@@ -8,7 +8,7 @@ use tag_bytes::Tag;
 
 fn main() {
     // One byte more than any plan, so that a file that is too long is seen to be.
-    let mut file = [0; 16389];
+    let mut file = [0; 16393];
     let read = io::read_full(STDIN_FILENO, &mut file);
     let mut parents = [0; GREATEST_COUNT];
     let mut components = [0; GREATEST_COUNT];

@@ -31,9 +31,9 @@ window offset length = record { offset = offset; length = length }
 
 -- Plan 12 is refused by 13 before 8; ends 5, 5 and 7 pass 13 and are then asked for room; a falling offset of a later window comes
 -- before a falling end.
-pub even-first : evenTableAnswerOf file 0 ∷ evenTableAnswerOf (fileOf 0 (window 0 5 ∷ window 1 4 ∷ window 2 5 ∷ [])) 3
-    ∷ evenTableAnswerOf (fileOf 0 (window 0 5 ∷ window 1 4 ∷ window 2 5 ∷ [])) 2
-    ∷ evenTableAnswerOf (fileOf 0 (window 1 5 ∷ window 1 4 ∷ window 0 9 ∷ [])) 3 ∷ []
+pub even-first : evenTableAnswerOf file 0 ∷ evenTableAnswerOf (fileOf 0 1 (window 0 5 ∷ window 1 4 ∷ window 2 5 ∷ [])) 3
+    ∷ evenTableAnswerOf (fileOf 0 1 (window 0 5 ∷ window 1 4 ∷ window 2 5 ∷ [])) 2
+    ∷ evenTableAnswerOf (fileOf 0 1 (window 1 5 ∷ window 1 4 ∷ window 0 9 ∷ [])) 3 ∷ []
     ≡ Refused (refusalAbout 1 (refusalBy 13)) ∷ Filled 3 ∷ Refused (refusalBy 8) ∷ Refused (refusalAbout 2 (refusalBy 6)) ∷ []
 unfolding meaning roomQuestion endBefore evenQuestion evenQuestions evenTableQuestions evenTableAnswerOf
 even-first = refl

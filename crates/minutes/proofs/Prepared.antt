@@ -13,7 +13,7 @@ use Rattle.sequences.proofs.Search.{least-unique}
 use Rattle.sequences.proofs.Table.{Filling, filling-start, filling-turn}
 use Rattle.interval_graph.specs.Tree.{last, parent}
 use Rattle.interval_graph.proofs.Last.{last-cases, last-ge, overlap-last}
-use Rattle.plan.specs.Overlap.{overlaps, overlapInOrder}
+use Rattle.plan.specs.Overlap.{overlaps}
 use Rattle.plan.specs.Validation.{greatestCount}
 use Rattle.plan.specs.AcceptedWindows.{AcceptedWindows}
 use Rattle.plan.proofs.Accepted.{accepted-sound, offsets-sorted}
@@ -36,7 +36,7 @@ pub record Fingers (file : List ℕ) (windows : ℕ) (parents₀ parents : List 
 module _ {file : List ℕ} {windows : ℕ} (plan : AcceptedWindows file windows) where
   -- For u before v: they overlap exactly if the offset of v lies before the bound of u.
   earlier-overlaps : (u v : ℕ) → u < v → v < windows → overlaps file u v ≡ ltb (offsetAt file v) (boundAt file u)
-  unfolding offsetAt boundAt overlapInOrder
+  unfolding offsetAt boundAt
   earlier-overlaps u v h within = overlaps-bound file (plan .accepted) u v h (omega (arith, plan .counted))
 
   bounded-past : (u v : ℕ) → u < v → v < windows → offsetAt file v < boundAt file u → overlaps file u v ≡ true

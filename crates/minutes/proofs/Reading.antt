@@ -1,17 +1,17 @@
 -- The offset and the bound of a window that was read, and the table of the offsets.
 -- Assumes nothing.
-use Prim.Native.Nat.{ℕ, _≤_}
+use Prim.Native.Nat.{ℕ, _-_, _≤_, _<_}
 use mathlib.Core.{Path._≡_, Path.refl, Path.ap, Path._∙_, List.List}
 use native.Mathlib.Omega.{arith}
 use lib.ListN.{replicate, length-replicate, getD-replicate}
 use Rattle.sequences.specs.Table.{table, overwritten}
 use Rattle.sequences.proofs.Table.{length-table, length-overwritten, overwritten-past, overwritten-holds}
 use Rattle.plan.specs.declared.windows.Window.{Window}
-use Rattle.plan.specs.File.{windowAt}
+use Rattle.plan.specs.File.{windowCount, minimumHandover, windowAt, endOf}
 use Rattle.plan.specs.Overlap.{boundOf}
-use Rattle.plan.specs.Validation.{greatestCount}
+use Rattle.plan.specs.Validation.{greatestCount, AcceptedPlan}
 use Rattle.plan.specs.AcceptedWindows.{AcceptedWindows}
-use Rattle.plan.proofs.Counted.{windows-few}
+use Rattle.plan.proofs.Counted.{windows-few, bound-differs, bound-fits}
 use Rattle.minutes.specs.Tables.{offsetAt, boundAt}
 use Rattle.minutes.specs.Passes.{Prepared}
 
@@ -19,9 +19,16 @@ pub offset-read : (file : List ℕ) (v : ℕ) (w : Window) → w ≡ windowAt fi
 unfolding offsetAt
 offset-read file v w same = ap (λ (x : Window). x .offset) same
 
-pub bound-read : (file : List ℕ) (v r : ℕ) (w : Window) → w ≡ windowAt file v → r ≡ boundOf w → r ≡ boundAt file v
-unfolding boundAt
-bound-read file v r w same e = e ∙ ap boundOf same
+-- The end and the minimum that were read: neither difference lies below 0, and what they give is the bound, which fits 32 bits.
+module _ (file : List ℕ) (ok : AcceptedPlan file) (v : ℕ) (h : v < windowCount file) (w : Window) (end minimum : ℕ) (same : w ≡ windowAt file v)
+    (ends : end ≡ endOf w) (read : minimum ≡ minimumHandover file) where
+  pub bound-formed : (1 ≤ minimum) × (minimum - 1 ≤ end) × (end - (minimum - 1) < 4294967296)
+  unfolding boundOf
+  bound-formed = rw (ends, same, read) (bound-differs file ok v h .0, bound-differs file ok v h .1, bound-fits file ok v h)
+
+  pub bound-read : end - (minimum - 1) ≡ boundAt file v
+  unfolding boundAt boundOf
+  bound-read = rw (ends, same, read)
 
 -- The table of offsets that the pass leaves, where it was full of the greatest number before.
 pub prepared-read : (file : List ℕ) (windows : ℕ) (offsets : List ℕ) → AcceptedWindows file windows →

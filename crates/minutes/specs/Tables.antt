@@ -4,7 +4,7 @@
 use Prim.Native.Nat.{ℕ}
 use mathlib.Core.List.{List}
 use Rattle.interval_graph.specs.Tree.{last, parent}
-use Rattle.plan.specs.File.{windowCount, windowAt}
+use Rattle.plan.specs.File.{windowCount, minimumHandover, windowAt}
 use Rattle.plan.specs.Overlap.{overlaps, boundOf}
 
 module _ (file : List ℕ) where
@@ -13,7 +13,7 @@ module _ (file : List ℕ) where
 
   -- What a later window that overlaps the one at v begins before.
   unfoldable pub boundAt : ℕ → ℕ
-  boundAt v = boundOf (windowAt file v)
+  boundAt v = boundOf (minimumHandover file) (windowAt file v)
 
   unfoldable pub lastOf : ℕ → ℕ
   lastOf v = last (windowCount file) (overlaps file) v

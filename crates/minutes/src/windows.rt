@@ -1,5 +1,4 @@
 // The windows of an accepted plan: the offset and the bound of each, and the offsets as a table.
-use plan::HEADER_LENGTH;
 use plan::WINDOW_LENGTH;
 use plan::Window;
 ghost use mathlib.Core.Path.{_≡_};
@@ -16,7 +15,7 @@ pub(crate) fn window_at(file: &[u8], position: usize) -> Window
     requires { ⌜ position < windowCount (now file) ⌝ }
     ensures { λ r. ⌜ r ≡ windowAt (now (file .entry)) position ⌝ }
 {
-    let at = HEADER_LENGTH + WINDOW_LENGTH * position;
+    let at = plan::window_place(position as u16);
     plan::read_window(&file[at..at + WINDOW_LENGTH])
 }
 
@@ -28,13 +27,15 @@ pub(crate) fn offset_at(file: &[u8], position: usize) -> u32
     window_at(file, position).offset
 }
 
-// An accepted plan's bounds fit 32 bits.
+// What a later window that overlaps the one at a position begins before. In an accepted plan no minimum is past an end, and bounds fit 32
+// bits.
 pub(crate) fn bound_at(file: &[u8], position: usize) -> u32
     requires { ⌜ AcceptedPlan (now file) ⌝ }
     requires { ⌜ position < windowCount (now file) ⌝ }
     ensures { λ r. ⌜ r ≡ boundAt (now (file .entry)) position ⌝ }
 {
-    plan::window_bound(window_at(file, position)) as u32
+    let end = plan::window_end(window_at(file, position));
+    (end - (plan::minimum_handover(file) as u64 - 1)) as u32
 }
 
 pub(crate) fn read_offsets(file: &[u8], windows: usize, offsets: &mut [u32])

@@ -1,5 +1,4 @@
 // The windows of an accepted plan, and whether two of them overlap.
-use plan::HEADER_LENGTH;
 use plan::WINDOW_LENGTH;
 use plan::Window;
 ghost use mathlib.Core.Path.{_≡_};
@@ -13,7 +12,7 @@ pub(crate) fn window_at(file: &[u8], position: usize) -> Window
     requires { ⌜ position < windowCount (now file) ⌝ }
     ensures { λ r. ⌜ r ≡ windowAt (now (file .entry)) position ⌝ }
 {
-    let at = HEADER_LENGTH + WINDOW_LENGTH * position;
+    let at = plan::window_place(position as u16);
     plan::read_window(&file[at..at + WINDOW_LENGTH])
 }
 
@@ -28,9 +27,10 @@ pub(crate) fn meets(file: &[u8], first: usize, window: Window, second: usize) ->
     if first == second {
         return false;
     }
+    let minimum = plan::minimum_handover(file);
     let other = window_at(file, second);
     if first < second {
-        return plan::overlap_in_order(window, other);
+        return plan::overlap_in_order(minimum, window, other);
     }
-    plan::overlap_in_order(other, window)
+    plan::overlap_in_order(minimum, other, window)
 }

@@ -1,14 +1,14 @@
 -- What is known of an accepted plan's file by the number of its windows, and that a validation hands it on; and where each of its
 -- windows lies, which whoever reads windows cites.
--- Vocabulary: windows-few, windows-order, validated-windows, window-within, bound-fits, own-offset.
+-- Vocabulary: windows-few, windows-order, validated-windows, window-within, bound-differs, bound-fits, own-offset.
 -- Assumes nothing.
-use Prim.Native.Nat.{ℕ, _+_, _≤_, _<_}
+use Prim.Native.Nat.{ℕ, _+_, _-_, _≤_, _<_}
 use mathlib.Core.{Path._≡_, Path.sym, Path._∙_, List.List}
 use native.Mathlib.Omega.{arith}
 use Rattle.interval_graph.specs.Order.{IntervalOrder}
 use Rattle.plan.specs.declared.questions.Validation.{Validation, the-variants.Accepted}
 use lib.ListN.{length}
-use Rattle.plan.specs.File.{windowLength, windowPlace, windowCount, windowAt, endOf}
+use Rattle.plan.specs.File.{windowLength, windowPlace, windowCount, minimumHandover, windowAt, endOf}
 use Rattle.plan.specs.Overlap.{overlaps, boundOf}
 use Rattle.plan.specs.Validation.{greatestCount, AcceptedPlan, validateAnswerOf}
 use Rattle.plan.specs.AcceptedWindows.{AcceptedWindows}
@@ -36,12 +36,16 @@ module _ (file : List ℕ) (ok : AcceptedPlan file) (v : ℕ) (h : v < windowCou
   pub window-within : (windowPlace v + windowLength ≤ length file) × (v < greatestCount)
   window-within = (omega (arith, accepted-sound file ok .whole), omega (arith, accepted-sound file ok .few))
 
-  -- Its bound fits 32 bits,
-  pub bound-fits : boundOf (windowAt file v) < 4294967296
+  -- Its bound is no difference below 0, and fits 32 bits,
+  pub bound-differs : (1 ≤ minimumHandover file) × (minimumHandover file - 1 ≤ endOf (windowAt file v))
+  unfolding endOf
+  bound-differs = (accepted-sound file ok .least, omega (arith, accepted-sound file ok .long v h))
+
+  pub bound-fits : boundOf (minimumHandover file) (windowAt file v) < 4294967296
   unfolding boundOf
   bound-fits = omega (arith, accepted-sound file ok .early v h)
 
   -- and it begins before it.
-  pub own-offset : windowAt file v .offset < boundOf (windowAt file v)
+  pub own-offset : windowAt file v .offset < boundOf (minimumHandover file) (windowAt file v)
   unfolding boundOf endOf
-  own-offset = omega (arith, accepted-sound file ok .long v h)
+  own-offset = omega (arith, accepted-sound file ok .least, accepted-sound file ok .long v h)

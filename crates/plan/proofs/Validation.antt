@@ -1,8 +1,8 @@
--- Laws of questions 1 to 6: what each answer of `validate` shows, over plain numbers and lists.
+-- Laws of questions 1 to 6 and 14: what each answer of `validate` shows, over plain numbers and lists.
 -- Vocabulary: window-at, ask-*, refused-*, windows-answer, Passed, passed-*.
 -- Assumes nothing.
 use Prim.Native.Nat.{ℕ, _+_, _-_, _≤_, _<_}
-use mathlib.Core.{Path._≡_, Path.refl, Path.ap, List.List}
+use mathlib.Core.{Bool.true, Bool.false, Path._≡_, Path.refl, Path.ap, List.List}
 use native.Mathlib.{Nat.add-sub-cancel-left, Numerals.add-one}
 use lib.ListN.{length, take, drop}
 use borrow.Author.Tests.{le-leb, lt-leb, eq-eqb, ne-eqb}
@@ -11,86 +11,102 @@ use Rattle.refusals.specs.declared.Asked.the-variants as asked
 use Rattle.refusals.specs.Question.{Question, refusalBy, refusalAbout, question, each, firstNo, askedOf}
 use Rattle.refusals.proofs.Question.{Asking, asking-start, asking-turn, asking-refused, asking-end}
 use Rattle.plan.specs.declared.windows.Window.{Window}
-use Rattle.plan.specs.declared.questions.Validation.the-variants.{Accepted, Refused}
-use Rattle.plan.specs.File.{headerLength, windowLength, fileLength, windowPlace, planNumber, windowCount, windowOf, windowAt, endOf}
-use Rattle.plan.specs.Validation.{greatestCount, greatestEnd, offsetBefore, windowQuestions, fileQuestions, planQuestions, validateAnswerOf}
+use Rattle.plan.specs.declared.questions.Validation.{Validation, the-variants.Accepted, the-variants.Refused}
+use Rattle.plan.specs.File.{headerLength, windowLength, fileLength, windowPlace, planNumber, windowCount, minimumHandover, windowOf, windowAt, endOf}
+use Rattle.plan.specs.Validation.{greatestCount, greatestEnd, minimumPasses, offsetBefore, windowQuestions, fileQuestions, planQuestions, validateAnswerOf}
 
 -- The window in the eight-byte part from the middle of the file is the window at its position.
-pub window-at : (file : List ℕ) (v : ℕ) (w : Window) →
-    w ≡ windowOf (take (windowPlace v + windowLength - windowPlace v) (drop (windowPlace v) file)) → w ≡ windowAt file v
+pub window-at : (file : List ℕ) (v place : ℕ) (w : Window) → place ≡ windowPlace v →
+    w ≡ windowOf (take (place + windowLength - place) (drop place file)) → w ≡ windowAt file v
 unfolding windowAt
-window-at file v w e = rw (add-sub-cancel-left (windowPlace v) windowLength) at e
+window-at file v place w here e = rw (here, add-sub-cancel-left (windowPlace v) windowLength) at e
 
 -- Which of a window's three questions is the first "no".
-module _ (before : ℕ) (w : Window) where
-  pub ask-4 : w .length < 1 → asked.Refused (refusalBy 4) ≡ askedOf (windowQuestions before w)
+module _ (minimum before : ℕ) (w : Window) where
+  pub ask-4 : w .length < minimum → asked.Refused (refusalBy 4) ≡ askedOf (windowQuestions minimum before w)
   unfolding askedOf windowQuestions firstNo question
-  ask-4 short = rw (lt-leb 1 (w .length) short)
+  ask-4 short = rw (lt-leb minimum (w .length) short)
 
-  pub ask-5 : 1 ≤ w .length → greatestEnd < endOf w → asked.Refused (refusalBy 5) ≡ askedOf (windowQuestions before w)
+  pub ask-5 : minimum ≤ w .length → greatestEnd < endOf w → asked.Refused (refusalBy 5) ≡ askedOf (windowQuestions minimum before w)
   unfolding askedOf windowQuestions firstNo question
-  ask-5 long late = rw (le-leb 1 (w .length) long, lt-leb (endOf w) greatestEnd late)
+  ask-5 long late = rw (le-leb minimum (w .length) long, lt-leb (endOf w) greatestEnd late)
 
-  module _ (long : 1 ≤ w .length) (early : endOf w ≤ greatestEnd) where
-    pub ask-6 : w .offset < before → asked.Refused (refusalBy 6) ≡ askedOf (windowQuestions before w)
+  module _ (long : minimum ≤ w .length) (early : endOf w ≤ greatestEnd) where
+    pub ask-6 : w .offset < before → asked.Refused (refusalBy 6) ≡ askedOf (windowQuestions minimum before w)
     unfolding askedOf windowQuestions firstNo question
-    ask-6 falls = rw (le-leb 1 (w .length) long, le-leb (endOf w) greatestEnd early, lt-leb before (w .offset) falls)
+    ask-6 falls = rw (le-leb minimum (w .length) long, le-leb (endOf w) greatestEnd early, lt-leb before (w .offset) falls)
 
-    pub ask-none : before ≤ w .offset → asked.Passed ≡ askedOf (windowQuestions before w)
+    pub ask-none : before ≤ w .offset → asked.Passed ≡ askedOf (windowQuestions minimum before w)
     unfolding askedOf windowQuestions firstNo question
-    ask-none sorted = rw (le-leb 1 (w .length) long, le-leb (endOf w) greatestEnd early, le-leb before (w .offset) sorted)
+    ask-none sorted = rw (le-leb minimum (w .length) long, le-leb (endOf w) greatestEnd early, le-leb before (w .offset) sorted)
 
--- The questions of each window of a file.
+-- The questions of each window of a file that are asked with a minimum.
+abbrev pub askedWith : (minimum : ℕ) → List ℕ → ℕ → List Question
+askedWith minimum file v = windowQuestions minimum (offsetBefore file v) (windowAt file v)
+
 abbrev pub windowsAsked : List ℕ → ℕ → List Question
-windowsAsked file v = windowQuestions (offsetBefore file v) (windowAt file v)
+windowsAsked file = askedWith (minimumHandover file) file
 
--- The questions of the file as a whole, where n is the number of windows that it names.
+-- The questions of the file as a whole, where n is the number of windows that it names, and then its minimum.
 module _ (file : List ℕ) (n : ℕ) (named : n ≡ windowCount file) (header : headerLength ≤ length file) where
   pub refused-2 : greatestCount < n → Refused (refusalBy 2) ≡ validateAnswerOf file
   unfolding validateAnswerOf planQuestions fileQuestions firstNo question
   refused-2 many = rw (← named, le-leb headerLength (length file) header, lt-leb n greatestCount many)
 
-  module _ (few : n ≤ greatestCount) where
-    pub refused-3 : (length file ≡ fileLength n → ⊥) → Refused (refusalBy 3) ≡ validateAnswerOf file
+  module _ (few : n ≤ greatestCount) (minimum : ℕ) (read : minimum ≡ minimumHandover file) where
+    pub refused-14 : minimumPasses minimum ≡ false → Refused (refusalBy 14) ≡ validateAnswerOf file
     unfolding validateAnswerOf planQuestions fileQuestions firstNo question
-    refused-3 other =
-        rw (← named, le-leb headerLength (length file) header, le-leb n greatestCount few, ne-eqb (length file) (fileLength n) other)
+    refused-14 fails = rw (← named, ← read, le-leb headerLength (length file) header, le-leb n greatestCount few, fails)
 
-    -- Where they are all answered "yes", those of the windows give the answer.
-    pub windows-answer : (plan : ℕ) → plan ≡ planNumber file → length file ≡ fileLength n →
-        firstNo (each (windowsAsked file) 0 n) Refused (Accepted plan n) ≡ validateAnswerOf file
-    unfolding validateAnswerOf planQuestions fileQuestions firstNo question
-    windows-answer plan number whole =
-        rw (← named, ← number, le-leb headerLength (length file) header, le-leb n greatestCount few, eq-eqb (length file) (fileLength n) whole)
+    module _ (passes : minimumPasses minimum ≡ true) where
+      pub refused-3 : (length file ≡ fileLength n → ⊥) → Refused (refusalBy 3) ≡ validateAnswerOf file
+      unfolding validateAnswerOf planQuestions fileQuestions firstNo question
+      refused-3 other =
+          rw (← named, ← read, le-leb headerLength (length file) header, le-leb n greatestCount few, passes, ne-eqb (length file) (fileLength n) other)
+
+      -- Where they are all answered "yes", those of the windows give the answer.
+      pub windows-answer : (plan : ℕ) → plan ≡ planNumber file → length file ≡ fileLength n → (answer : Validation) →
+          answer ≡ firstNo (each (askedWith minimum file) 0 n) Refused (Accepted plan n) → answer ≡ validateAnswerOf file
+      unfolding validateAnswerOf planQuestions fileQuestions firstNo question
+      windows-answer plan number whole answer e =
+          rw (
+            ← named,
+            ← read,
+            ← number,
+            le-leb headerLength (length file) header,
+            le-leb n greatestCount few,
+            passes,
+            eq-eqb (length file) (fileLength n) whole,
+          ) e
 
 pub refused-1 : (file : List ℕ) → length file < headerLength → Refused (refusalBy 1) ≡ validateAnswerOf file
 unfolding validateAnswerOf planQuestions fileQuestions firstNo question
 refused-1 file short = rw (lt-leb headerLength (length file) short)
 
 -- The pass over the windows, before the window at a position: `before` is the offset of the window before it.
-pub record Passed (file : List ℕ) (plan windows before position : ℕ) : Type 0 where
+pub record Passed (file : List ℕ) (minimum plan windows before position : ℕ) : Type 0 where
   pub previous : before ≡ offsetBefore file position
-  pub asking : Asking (windowsAsked file) Refused (Accepted plan windows) windows position
+  pub asking : Asking (askedWith minimum file) Refused (Accepted plan windows) windows position
 
-module _ (file : List ℕ) (plan windows : ℕ) where
-  pub passed-start : Passed file plan windows 0 0
+module _ (file : List ℕ) (minimum plan windows : ℕ) where
+  pub passed-start : Passed file minimum plan windows 0 0
   unfolding offsetBefore
-  passed-start = record { previous = refl; asking = asking-start (windowsAsked file) Refused (Accepted plan windows) windows }
+  passed-start = record { previous = refl; asking = asking-start (askedWith minimum file) Refused (Accepted plan windows) windows }
 
-  pub passed-end : (before v : ℕ) → windows ≤ v → Passed file plan windows before v →
-      Accepted plan windows ≡ firstNo (each (windowsAsked file) 0 windows) Refused (Accepted plan windows)
-  passed-end before v done s = asking-end (windowsAsked file) Refused (Accepted plan windows) windows v done (s .asking)
+  pub passed-end : (before v : ℕ) → windows ≤ v → Passed file minimum plan windows before v →
+      Accepted plan windows ≡ firstNo (each (askedWith minimum file) 0 windows) Refused (Accepted plan windows)
+  passed-end before v done s = asking-end (askedWith minimum file) Refused (Accepted plan windows) windows v done (s .asking)
 
-  module _ (before v : ℕ) (w : Window) (left : v < windows) (s : Passed file plan windows before v) (read : w ≡ windowAt file v) where
-    pub passed-turn : asked.Passed ≡ askedOf (windowQuestions before w) → Passed file plan windows (w .offset) (v + 1)
+  module _ (before v : ℕ) (w : Window) (left : v < windows) (s : Passed file minimum plan windows before v) (read : w ≡ windowAt file v) where
+    pub passed-turn : asked.Passed ≡ askedOf (windowQuestions minimum before w) → Passed file minimum plan windows (w .offset) (v + 1)
     unfolding offsetBefore
     passed-turn h =
         record {
           previous = rw (add-one v) (ap (λ (x : Window). x .offset) read);
-          asking = asking-turn (windowsAsked file) Refused (Accepted plan windows) windows v left (s .asking) (rw (← s .previous, ← read) h);
+          asking = asking-turn (askedWith minimum file) Refused (Accepted plan windows) windows v left (s .asking) (rw (← s .previous, ← read) h);
         }
 
-    pub passed-refused : (r : Refusal) → asked.Refused r ≡ askedOf (windowQuestions before w) →
-        Refused (refusalAbout v r) ≡ firstNo (each (windowsAsked file) 0 windows) Refused (Accepted plan windows)
+    pub passed-refused : (r : Refusal) → asked.Refused r ≡ askedOf (windowQuestions minimum before w) →
+        Refused (refusalAbout v r) ≡ firstNo (each (askedWith minimum file) 0 windows) Refused (Accepted plan windows)
     passed-refused r h =
-        asking-refused (windowsAsked file) Refused (Accepted plan windows) windows v left (s .asking) r (rw (← s .previous, ← read) h)
+        asking-refused (askedWith minimum file) Refused (Accepted plan windows) windows v left (s .asking) r (rw (← s .previous, ← read) h)

@@ -1,7 +1,7 @@
 -- What a plan file is, when it is refused, and when two of its windows overlap. In reading order:
---   File        plan number, windows, their offsets, lengths and ends; the file of a list of windows
+--   File        plan number, minimum handover, windows, their offsets, lengths and ends; the file of a list of windows
 --   Overlap     the minutes that windows cover and share, and overlap
---   Validation  questions 1 to 6
+--   Validation  questions 1 to 6, and 14
 --   Even        question 13: whether an end falls
 --   AcceptedWindows  an accepted plan with so many windows
 pub mod File

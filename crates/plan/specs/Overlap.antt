@@ -1,13 +1,13 @@
--- Paper 01: "the window covers the minutes from its offset up to, not including, its end", and "Two different windows
--- overlap when they share a minute."
--- Vocabulary: covers, sharedMinutes, minimumHandover, overlaps; boundOf, overlapInOrder.
-use Prim.Native.Nat.{ℕ, _-_, max}
+-- Paper 01: "the window covers the minutes from its offset up to, not including, its end", and paper 02, Q-2: "Two windows overlap when
+-- they share at least that many minutes", the plan's minimum handover.
+-- Vocabulary: covers, sharedMinutes, sharing, overlaps; sharesMinute; boundOf, overlapInOrder.
+use Prim.Native.Nat.{ℕ, _+_, _-_, max}
 use mathlib.Core.Bool.{Bool, not, _&&_}
 use mathlib.Core.List.{List}
 use lib.Dec.{ltb, leb, eqb}
 use Rattle.sequences.specs.Search.{count}
 use Rattle.plan.specs.declared.windows.Window.{Window}
-use Rattle.plan.specs.File.{windowAt, endOf}
+use Rattle.plan.specs.File.{minimumHandover, windowAt, endOf}
 
 unfoldable pub covers : Window → ℕ → Bool
 covers w minute = leb (w .offset) minute && ltb minute (endOf w)
@@ -16,18 +16,22 @@ covers w minute = leb (w .offset) minute && ltb minute (endOf w)
 unfoldable pub sharedMinutes : Window → Window → ℕ
 sharedMinutes u v = count (λ minute. covers u minute && covers v minute) (max (endOf u) (endOf v))
 
--- How many minutes two windows must share to overlap.
-abbrev pub minimumHandover : ℕ
-minimumHandover = 1
+-- The windows of a file at two different positions share at least so many minutes.
+unfoldable pub sharing : (minutes : ℕ) → List ℕ → ℕ → ℕ → Bool
+sharing minutes file u v = not (eqb u v) && leb minutes (sharedMinutes (windowAt file u) (windowAt file v))
 
--- The windows of a file at two different positions share at least that many minutes.
 unfoldable pub overlaps : List ℕ → ℕ → ℕ → Bool
-overlaps file u v = not (eqb u v) && leb minimumHandover (sharedMinutes (windowAt file u) (windowAt file v))
+overlaps file = sharing (minimumHandover file) file
 
--- What follows need not be believed: how overlap is computed, of which `overlaps-bound` says that it is overlap.
+-- Overlap as paper 01 has it, before there was a minimum: "Two different windows overlap when they share a minute."
+unfoldable pub sharesMinute : List ℕ → ℕ → ℕ → Bool
+sharesMinute file = sharing 1 file
+
+-- What follows need not be believed: how overlap is computed, of which `overlaps-in-order` and `overlaps-bound` say that it is overlap.
+-- Two windows, of which the first stands before the second.
+unfoldable pub overlapInOrder : (minimum : ℕ) (earlier later : Window) → Bool
+overlapInOrder minimum earlier later = leb (later .offset + minimum) (endOf earlier)
+
 -- Where a later window must begin before, to share enough minutes with this one.
-unfoldable pub boundOf : Window → ℕ
-boundOf w = endOf w - (minimumHandover - 1)
-
-unfoldable pub overlapInOrder : (earlier later : Window) → Bool
-overlapInOrder earlier later = ltb (later .offset) (boundOf earlier)
+unfoldable pub boundOf : (minimum : ℕ) → Window → ℕ
+boundOf minimum w = endOf w - (minimum - 1)

@@ -1,8 +1,9 @@
 -- Paper 01, "Questions at the door", 1 to 6, and "Plan file": "A plan is accepted when its file meets no refusal in
--- questions 1 to 6".
--- Vocabulary: greatestCount, greatestEnd, offsetBefore, windowQuestions, fileQuestions, planQuestions, AcceptedPlan, validateAnswerOf.
+-- questions 1 to 6"; with 14 among them, of paper 02, Q-2. Where these crates say "questions 1 to 6" of a plan, 14 is meant too.
+-- Vocabulary: greatestCount, greatestMinimum, greatestEnd, minimumPasses, offsetBefore, windowQuestions, fileQuestions, planQuestions,
+-- AcceptedPlan, validateAnswerOf.
 use Prim.Native.Nat.{ℕ, zero, suc}
-use mathlib.Core.Bool.{true}
+use mathlib.Core.Bool.{Bool, true, _&&_}
 use mathlib.Core.Path.{_≡_}
 use mathlib.Core.List.{List, [], _∷_, _++_}
 use lib.ListN.{length}
@@ -11,41 +12,50 @@ use Rattle.refusals.specs.Question.{Question, question, each, allYes, firstNo}
 use Rattle.plan.specs.declared.windows.Window.{Window}
 use Rattle.plan.specs.declared.questions.Validation.{Validation}
 use Rattle.plan.specs.declared.questions.Validation.the-variants.{Accepted, Refused}
-use Rattle.plan.specs.File.{headerLength, fileLength, planNumber, windowCount, windowAt, endOf}
+use Rattle.plan.specs.File.{headerLength, fileLength, planNumber, windowCount, minimumHandover, windowAt, endOf}
 
 abbrev pub greatestCount : ℕ
 greatestCount = 2048
 
+abbrev pub greatestMinimum : ℕ
+greatestMinimum = 86400
+
 abbrev pub greatestEnd : ℕ
 greatestEnd = 10000000
+
+-- "Turned away: 14, a minimum outside 1 to 86,400".
+abbrev pub minimumPasses : ℕ → Bool
+minimumPasses minimum = leb 1 minimum && leb minimum greatestMinimum
 
 -- The offset of the window before v, or 0 where there is none, which no offset is below.
 unfoldable pub offsetBefore : List ℕ → ℕ → ℕ
 offsetBefore file zero = 0
 offsetBefore file (suc v) = windowAt file v .offset
 
--- Of a window, where the window before it has the offset before:
--- "4. Is the length at least 1?
---  5. Is the true sum offset + length at most 10,000,000?
+-- Of a window of a plan with this minimum, where the window before it has the offset before:
+-- "Every window is at least that long; check 4 now says this" (paper 02, Q-2).
+-- "5. Is the true sum offset + length at most 10,000,000?
 --  6. Is the offset at least that of the window before?"
-unfoldable pub windowQuestions : (before : ℕ) → Window → List Question
-windowQuestions before w =
-    question 4 (leb 1 (w .length)) ∷ question 5 (leb (endOf w) greatestEnd) ∷ question 6 (leb before (w .offset)) ∷ []
+unfoldable pub windowQuestions : (minimum before : ℕ) → Window → List Question
+windowQuestions minimum before w =
+    question 4 (leb minimum (w .length)) ∷ question 5 (leb (endOf w) greatestEnd) ∷ question 6 (leb before (w .offset)) ∷ []
 
 module _ (file : List ℕ) where
-  -- "1. Has the file at least 4 bytes?
-  --  2. Is n at most 2,048?
-  --  3. Has the file exactly 4 + 8 × n bytes?"
+  -- "1. Has the file at least" 8 "bytes?
+  --  2. Is n at most 2,048?", "14, …, after 2",
+  -- "3. Has the file exactly" 8 "+ 8 × n bytes?" ("1 and 3 count the larger header.")
   unfoldable pub fileQuestions : List Question
   fileQuestions =
       question 1 (leb headerLength (length file))
       ∷ question 2 (leb (windowCount file) greatestCount)
+      ∷ question 14 (minimumPasses (minimumHandover file))
       ∷ question 3 (eqb (length file) (fileLength (windowCount file)))
       ∷ []
 
   -- "Then, window after window:" 4, 5 and 6.
   unfoldable pub planQuestions : List Question
-  planQuestions = fileQuestions ++ each (λ v. windowQuestions (offsetBefore file v) (windowAt file v)) 0 (windowCount file)
+  planQuestions =
+      fileQuestions ++ each (λ v. windowQuestions (minimumHandover file) (offsetBefore file v) (windowAt file v)) 0 (windowCount file)
 
   -- The file is that of an accepted plan: none of these questions is answered "no".
   abbrev pub AcceptedPlan : Type 0

@@ -1,5 +1,6 @@
 // The plan file: its windows read and written, and whether it is accepted.
 mod figures;
+mod header;
 mod questions;
 mod windows;
 
@@ -7,11 +8,12 @@ pub use figures::GREATEST_COUNT;
 pub use figures::GREATEST_END;
 pub use figures::HEADER_LENGTH;
 pub use figures::WINDOW_LENGTH;
+pub use header::minimum_handover;
 pub use questions::Validation;
 pub use questions::validate;
 pub use windows::Window;
 pub use windows::overlap_in_order;
 pub use windows::read_window;
-pub use windows::window_bound;
 pub use windows::window_end;
+pub use windows::window_place;
 pub use windows::write_window;

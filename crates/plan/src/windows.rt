@@ -1,13 +1,21 @@
-// A window of a plan file, read and written, its end, and when it overlaps a later one.
+// A window of a plan file: where it stands, read and written, its end, and when it overlaps a later one.
+use crate::figures::HEADER_LENGTH;
 use crate::figures::WINDOW_LENGTH;
 ghost use mathlib.Core.Path.{_≡_};
 ghost use Rattle.wire.specs.LittleEndian.{placed};
-ghost use Rattle.plan.specs.File.{windowOf, windowBytes, endOf};
-ghost use Rattle.plan.specs.Overlap.{boundOf, overlapInOrder};
+ghost use Rattle.plan.specs.File.{windowPlace, windowOf, windowBytes, endOf};
+ghost use Rattle.plan.specs.Overlap.{overlapInOrder};
 
 pub struct Window {
     pub offset: u32,
     pub length: u32,
+}
+
+// Where the part of the window at a position begins, and so how many bytes a file of that many windows has.
+pub fn window_place(position: u16) -> usize
+    ensures { λ r. ⌜ r ≡ windowPlace position ⌝ }
+{
+    HEADER_LENGTH + WINDOW_LENGTH * (position as usize)
 }
 
 // The window in its own eight-byte part of the file.
@@ -41,16 +49,10 @@ pub fn window_end(window: Window) -> u64
     window.offset as u64 + window.length as u64
 }
 
-// What a later window that overlaps this one begins before: its end, since one minute shared is enough.
-pub fn window_bound(window: Window) -> u64
-    ensures { λ r. ⌜ r ≡ boundOf window ⌝ }
+// Whether two windows of an accepted plan with this minimum overlap, of which the first stands before the second. Sums are compared, and
+// no difference, which might lie below 0.
+pub fn overlap_in_order(minimum: u32, earlier: Window, later: Window) -> bool
+    ensures { λ r. ⌜ r ≡ overlapInOrder minimum earlier later ⌝ }
 {
-    window_end(window)
-}
-
-// Whether two windows of an accepted plan overlap, of which the first stands before the second. Minutes are compared here alone.
-pub fn overlap_in_order(earlier: Window, later: Window) -> bool
-    ensures { λ r. ⌜ r ≡ overlapInOrder earlier later ⌝ }
-{
-    (later.offset as u64) < window_bound(earlier)
+    later.offset as u64 + minimum as u64 <= window_end(earlier)
 }

@@ -23,7 +23,13 @@ plan-12-same = refl
 abbrev window : ℕ → ℕ → Window
 window offset length = record { offset = offset; length = length }
 
-pub same-by-overlap : (sameAnswerOf (fileOf 1 (window 0 11 ∷ window 10 5 ∷ [])) (fileOf 2 (window 5 5 ∷ window 5 5 ∷ [])) ≡ Same)
-    × (sameAnswerOf (fileOf 1 (window 0 5 ∷ window 5 5 ∷ [])) (fileOf 1 (window 0 5 ∷ window 4 5 ∷ [])) ≡ Different)
+pub same-by-overlap : (sameAnswerOf (fileOf 1 1 (window 0 11 ∷ window 10 5 ∷ [])) (fileOf 2 1 (window 5 5 ∷ window 5 5 ∷ [])) ≡ Same)
+    × (sameAnswerOf (fileOf 1 1 (window 0 5 ∷ window 5 5 ∷ [])) (fileOf 1 1 (window 0 5 ∷ window 4 5 ∷ [])) ≡ Different)
 unfolding answers
 same-by-overlap = (refl, refl)
+
+-- The minimums do not count, and what they make of the windows does: (0, 10) (5, 10) overlap with minimum 5 and not with 6.
+pub same-by-minimum : (sameAnswerOf (fileOf 1 5 (window 0 10 ∷ window 5 10 ∷ [])) (fileOf 1 1 (window 0 5 ∷ window 4 5 ∷ [])) ≡ Same)
+    × (sameAnswerOf (fileOf 1 5 (window 0 10 ∷ window 5 10 ∷ [])) (fileOf 1 6 (window 0 10 ∷ window 5 10 ∷ [])) ≡ Different)
+unfolding answers
+same-by-minimum = (refl, refl)

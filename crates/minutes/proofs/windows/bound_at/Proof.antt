@@ -1,9 +1,7 @@
--- `minutes::windows::bound_at` meets its contract: an accepted plan's bounds fit 32 bits.
+-- `minutes::windows::bound_at` meets its contract: no accepted plan's minimum is past the end of a window, and its bounds fit 32 bits.
 -- Assumes nothing.
 use native.Mathlib.Omega.{arith}
-use Rattle.plan.proofs.Counted.{bound-fits}
-use Rattle.minutes.specs.Tables.{boundAt}
-use Rattle.minutes.proofs.Reading.{bound-read}
+use Rattle.minutes.proofs.Reading.{bound-formed, bound-read}
 use borrow.Author.Needs.{needs}
 use Rattle.minutes.proofs.windows.bound_at.Statement.{statement}
 use Rattle.minutes.proofs.windows.bound_at.Tie as tie
@@ -11,16 +9,33 @@ use Rattle.minutes.proofs.windows.bound_at.Tie as tie
 window-at-requires : tie.Need-window-at-requires
 window-at-requires c κs = search needs
 
-window-bound-requires : tie.Need-window-bound-requires
-window-bound-requires c κs = search needs
+window-end-requires : tie.Need-window-end-requires
+window-end-requires c κs = search needs
+
+minimum-handover-requires : tie.Need-minimum-handover-requires
+minimum-handover-requires c κs = search needs
 
 cast-result : tie.Need-cast-result
-unfolding boundAt
-cast-result c = let d = c .before .before .before in
-    omega (arith, bound-read _ _ _ _ (c .before .window-at .ensures) (c .window-bound .ensures), bound-fits _ (d .pre .0) _ (d .pre .1))
+cast-result c = search needs
+
+sub-result : tie.Need-sub-result
+sub-result c = let w = c .before .before in let q = w .before .before .pre in
+    bound-formed _ (q .0) _ (q .1) _ _ _ (w .window-at .ensures) (c .before .window-end .ensures) (c .minimum-handover .ensures) .0
+
+sub-result-2 : tie.Need-sub-result-2
+sub-result-2 c = let w = c .before .before in let q = w .before .before .pre in
+    bound-formed _ (q .0) _ (q .1) _ _ _ (w .window-at .ensures) (c .before .window-end .ensures) (c .minimum-handover .ensures) .1
+
+cast-result-2 : tie.Need-cast-result-2
+cast-result-2 c = let w = c .before .before in let q = w .before .before .pre in
+    let formed = bound-formed _ (q .0) _ (q .1) _ _ _ (w .window-at .ensures) (c .before .window-end .ensures) (c .minimum-handover .ensures) in
+    omega (arith, formed .2)
 
 returns : tie.Need-returns
-returns c = bound-read _ _ _ _ (c .before .window-at .ensures) (c .window-bound .ensures)
+returns c = let w = c .before .before in let q = w .before .before .pre in
+    bound-read _ (q .0) _ (q .1) _ _ _ (w .window-at .ensures) (c .before .window-end .ensures) (c .minimum-handover .ensures)
 
 pub bound-at-spec : {M : Type 1} → statement M
-bound-at-spec = tie.close (tie.spec window-at-requires window-bound-requires cast-result returns)
+bound-at-spec =
+    tie.close (tie.spec window-at-requires window-end-requires minimum-handover-requires cast-result sub-result sub-result-2 cast-result-2
+    returns)

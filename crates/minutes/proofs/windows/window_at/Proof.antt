@@ -8,14 +8,15 @@ use borrow.Author.Needs.{needs}
 use Rattle.minutes.proofs.windows.window_at.Statement.{statement}
 use Rattle.minutes.proofs.windows.window_at.Tie as tie
 
-mul-at : tie.Need-mul-at
-mul-at c = omega (arith, window-within (now (c .before .args .file)) (c .before .pre .0) (c .before .args .position) (c .before .pre .1))
+cast-window-place : tie.Need-cast-window-place
+cast-window-place c = omega (arith, window-within (now (c .before .args .file)) (c .before .pre .0) (c .before .args .position) (c .before .pre .1))
 
-add-at : tie.Need-add-at
-add-at c = omega (arith, window-within (now (c .before .args .file)) (c .before .pre .0) (c .before .args .position) (c .before .pre .1))
+window-place-requires : tie.Need-window-place-requires
+window-place-requires c κs = search needs
 
 add-read-window : tie.Need-add-read-window
-add-read-window c = omega (arith, window-within (now (c .before .args .file)) (c .before .pre .0) (c .before .args .position) (c .before .pre .1))
+add-read-window c = let d = c .before .before in
+    omega (arith, c .window-place .ensures, window-within (now (d .args .file)) (d .pre .0) (d .args .position) (d .pre .1))
 
 sub-read-window : tie.Need-sub-read-window
 sub-read-window c = search needs
@@ -24,15 +25,16 @@ part-read-window-start : tie.Need-part-read-window-start
 part-read-window-start c = search needs
 
 part-read-window-end : tie.Need-part-read-window-end
-part-read-window-end c = omega (arith, window-within (now (c .before .args .file)) (c .before .pre .0) (c .before .args .position) (c .before .pre .1))
+part-read-window-end c = let d = c .before .before in
+    omega (arith, c .window-place .ensures, window-within (now (d .args .file)) (d .pre .0) (d .args .position) (d .pre .1))
 
 read-window-requires : tie.Need-read-window-requires
 read-window-requires c κs = search needs
 
 returns : tie.Need-returns
-returns c = window-at _ _ _ (c .read-window .ensures)
+returns c = window-at _ _ _ _ (c .before .before .window-place .ensures) (c .read-window .ensures)
 
 pub window-at-spec : {M : Type 1} → statement M
 window-at-spec =
-    tie.close (tie.spec mul-at add-at add-read-window sub-read-window part-read-window-start part-read-window-end read-window-requires
+    tie.close (tie.spec cast-window-place window-place-requires add-read-window sub-read-window part-read-window-start part-read-window-end read-window-requires
     returns)

@@ -1,9 +1,11 @@
 -- `plan::questions::validate` meets its contract: the tests are asked in the order of the questions, and then those of the
 -- windows give the answer.
 -- Assumes nothing.
-use mathlib.Core.Path.{_∙_}
+use mathlib.Core.Path.{sym, _∙_}
+use native.Mathlib.Omega.{arith}
+use borrow.Author.Tests.{not-true, not-false}
 use Rattle.plan.specs.File.{planNumber, windowCount}
-use Rattle.plan.proofs.Validation.{refused-1, refused-2, refused-3, windows-answer}
+use Rattle.plan.proofs.Validation.{refused-1, refused-2, refused-14, refused-3, windows-answer}
 use borrow.Author.Needs.{needs}
 use Rattle.plan.proofs.questions.validate.Statement.{statement}
 use Rattle.plan.proofs.questions.validate.Tie as tie
@@ -28,37 +30,48 @@ unfolding windowCount
 returns-2 c = let d = c .before .before in
     rw (c .by2 .ensures) (refused-2 _ _ (d .read-u16 .ensures) (d .before .if1 .left) (c .before .if2 .taken))
 
-cast-if3 : tie.Need-cast-if3
-cast-if3 c = search needs
+minimum-handover-requires : tie.Need-minimum-handover-requires
+minimum-handover-requires c κs = search needs
 
-mul-if3 : tie.Need-mul-if3
-mul-if3 c = search needs
-
-add-if3 : tie.Need-add-if3
-add-if3 c = search needs
+is-minimum-requires : tie.Need-is-minimum-requires
+is-minimum-requires c κs = search needs
 
 by-requires-3 : tie.Need-by-requires-3
 by-requires-3 c κs = search needs
 
 returns-3 : tie.Need-returns-3
 unfolding windowCount
-returns-3 c = let d = c .before .before .before in
-    rw (c .by3 .ensures) (refused-3 _ _ (d .read-u16 .ensures) (d .before .if1 .left) (c .before .before .if2 .left) (c .before .if3 .taken))
+returns-3 c = let m = c .before .before .before in let d = m .before .before in
+    rw (c .by3 .ensures) (refused-14 _ _ (d .read-u16 .ensures) (d .before .if1 .left) (m .before .if2 .left) _ (m .minimum-handover .ensures)
+    (sym (c .before .before .is-minimum .ensures) ∙ not-true _ (c .before .if3 .taken)))
+
+window-place-requires : tie.Need-window-place-requires
+window-place-requires c κs = search needs
+
+by-requires-4 : tie.Need-by-requires-4
+by-requires-4 c κs = search needs
+
+returns-4 : tie.Need-returns-4
+unfolding windowCount
+returns-4 c = let i = c .before .before .before in let m = i .before .before in let d = m .before .before in
+    rw (c .by4 .ensures) (refused-3 _ _ (d .read-u16 .ensures) (d .before .if1 .left) (m .before .if2 .left) _ (m .minimum-handover .ensures)
+    (sym (i .before .is-minimum .ensures) ∙ not-false _ (i .if3 .left)) (λ e. c .before .if4 .taken (omega (arith, e, c .before .before .window-place .ensures))))
 
 read-u16-requires-2 : tie.Need-read-u16-requires-2
 read-u16-requires-2 c κs = search needs
 
 validate-windows-requires : tie.Need-validate-windows-requires
-validate-windows-requires c κs = (c .before .if3 .left, c .before .before .if2 .left)
+validate-windows-requires c κs = let p = c .before .before in
+    (omega (arith, c .before .if4 .left, p .window-place .ensures), p .before .before .before .before .if2 .left)
 
-returns-4 : tie.Need-returns-4
+returns-5 : tie.Need-returns-5
 unfolding planNumber windowCount
-returns-4 c = let d = c .before .before .before .before in
-    c .validate-windows .ensures
-    ∙ windows-answer _ _ (d .read-u16 .ensures) (d .before .if1 .left) (c .before .before .before .if2 .left) _ (c .before .read-u162 .ensures)
-    (c .before .before .if3 .left)
+returns-5 c = let p = c .before .before .before in let m = p .before .before .before in let d = m .before .before in
+    windows-answer _ _ (d .read-u16 .ensures) (d .before .if1 .left) (m .before .if2 .left) _ (m .minimum-handover .ensures)
+    (sym (p .before .before .is-minimum .ensures) ∙ not-false _ (p .before .if3 .left)) _ (c .before .read-u162 .ensures)
+    (omega (arith, c .before .before .if4 .left, p .window-place .ensures)) _ (c .validate-windows .ensures)
 
 pub validate-spec : {M : Type 1} → statement M
 validate-spec =
-    tie.close (tie.spec by-requires returns read-u16-requires cast-if2 by-requires-2 returns-2 cast-if3 mul-if3 add-if3 by-requires-3
-    returns-3 read-u16-requires-2 validate-windows-requires returns-4)
+    tie.close (tie.spec by-requires returns read-u16-requires cast-if2 by-requires-2 returns-2 minimum-handover-requires is-minimum-requires
+    by-requires-3 returns-3 window-place-requires by-requires-4 returns-4 read-u16-requires-2 validate-windows-requires returns-5)

@@ -10,22 +10,16 @@ use Rattle.plan.proofs.questions.validate_windows.Statement.{statement}
 use Rattle.plan.proofs.questions.validate_windows.Tie as tie
 
 abbrev Inv-loop : tie.InvT-loop
-Inv-loop file plan windows before₀ position₀ before position = Passed file plan windows before position
+Inv-loop file minimum plan windows before₀ position₀ before position = Passed file minimum plan windows before position
 
 abbrev μ-loop : tie.MeasureT-loop
-μ-loop file plan windows before₀ position₀ before position = windows - position
+μ-loop file minimum plan windows before₀ position₀ before position = windows - position
 
 loop-holds : tie.Need-loop-holds Inv-loop μ-loop
-loop-holds c = passed-start _ _ _
+loop-holds c = passed-start _ _ _ _
 
-cast-at : tie.Need-cast-at Inv-loop μ-loop
-cast-at c = search needs
-
-mul-at : tie.Need-mul-at Inv-loop μ-loop
-mul-at c = search needs
-
-add-at : tie.Need-add-at Inv-loop μ-loop
-add-at c = search needs
+window-place-requires : tie.Need-window-place-requires Inv-loop μ-loop
+window-place-requires c κs = search needs
 
 add-read-window : tie.Need-add-read-window Inv-loop μ-loop
 add-read-window c = search needs
@@ -54,8 +48,8 @@ about-requires c κs = search needs
 returns : tie.Need-returns Inv-loop μ-loop
 returns c = let d = c .before .before .before .before in
     rw (c .about .ensures)
-    (passed-refused _ _ _ _ _ _ (d .before .before .before .loop-test .taken) (d .before .before .before .before .loop .inv)
-    (window-at _ _ _ (d .before .read-window .ensures)) _ (sym (c .before .before .asked .given .1) ∙ d .ask-window .ensures))
+    (passed-refused _ _ _ _ _ _ _ (d .before .before .before .before .loop-test .taken) (d .before .before .before .before .before .loop .inv)
+    (window-at _ _ _ _ (d .before .before .before .window-place .ensures) (d .before .read-window .ensures)) _ (sym (c .before .before .asked .given .1) ∙ d .ask-window .ensures))
 
 enum-told : tie.Need-enum-told Inv-loop μ-loop
 enum-told c = search needs
@@ -68,14 +62,14 @@ loop-less c = search needs
 
 loop-again : tie.Need-loop-again Inv-loop μ-loop
 loop-again c = let d = c .before .before in
-    passed-turn _ _ _ _ _ _ (d .before .before .before .loop-test .taken) (d .before .before .before .before .loop .inv)
-    (window-at _ _ _ (d .before .read-window .ensures)) (sym (c .enum-told .given .1) ∙ d .ask-window .ensures)
+    passed-turn _ _ _ _ _ _ _ (d .before .before .before .before .loop-test .taken) (d .before .before .before .before .before .loop .inv)
+    (window-at _ _ _ _ (d .before .before .before .window-place .ensures) (d .before .read-window .ensures)) (sym (c .enum-told .given .1) ∙ d .ask-window .ensures)
 
 returns-2 : tie.Need-returns-2 Inv-loop μ-loop
-returns-2 c = passed-end _ _ _ _ _ (c .loop-test .left) (c .before .loop .inv)
+returns-2 c = passed-end _ _ _ _ _ _ (c .loop-test .left) (c .before .loop .inv)
 
 pub validate-windows-spec : {M : Type 1} → statement M
 validate-windows-spec =
-    tie.close (tie.spec Inv-loop μ-loop loop-holds cast-at mul-at add-at add-read-window sub-read-window part-read-window-start
+    tie.close (tie.spec Inv-loop μ-loop loop-holds window-place-requires add-read-window sub-read-window part-read-window-start
     part-read-window-end read-window-requires ask-window-requires enum-known-asked about-requires returns enum-told add-position loop-less
     loop-again returns-2)

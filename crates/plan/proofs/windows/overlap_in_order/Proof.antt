@@ -1,4 +1,4 @@
--- `plan::windows::overlap_in_order` meets its contract: the later window begins before the bound of the earlier.
+-- `plan::windows::overlap_in_order` meets its contract: the sums of two 32-bit numbers fit 64 bits.
 -- Assumes nothing.
 use Rattle.plan.specs.Overlap.{overlapInOrder}
 use borrow.Author.Needs.{needs}
@@ -8,12 +8,15 @@ use Rattle.plan.proofs.windows.overlap_in_order.Tie as tie
 cast-result : tie.Need-cast-result
 cast-result c = search needs
 
-window-bound-requires : tie.Need-window-bound-requires
-window-bound-requires c κs = search needs
+add-result : tie.Need-add-result
+add-result c = search needs
+
+window-end-requires : tie.Need-window-end-requires
+window-end-requires c κs = search needs
 
 returns : tie.Need-returns
 unfolding overlapInOrder
-returns c = rw (← c .window-bound .ensures)
+returns c = rw (← c .window-end .ensures)
 
 pub overlap-in-order-spec : {M : Type 1} → statement M
-overlap-in-order-spec = tie.close (tie.spec cast-result window-bound-requires returns)
+overlap-in-order-spec = tie.close (tie.spec cast-result add-result window-end-requires returns)
