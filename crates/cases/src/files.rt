@@ -2,8 +2,7 @@
 use crate::lines::next_word;
 use crate::lines::number_at;
 use plan::GREATEST_COUNT;
-use plan::HEADER_LENGTH;
-use plan::WINDOW_LENGTH;
+use plan::MINIMUM_PLACE;
 use plan::Window;
 
 // The window whose offset stands at a place, and its length behind it.
@@ -22,11 +21,19 @@ fn stair(position: usize) -> Window {
     }
 }
 
-// A plan that names so many windows. It has those given, which stand in the text from a place on, and behind them, as far as there is
-// room, a staircase.
-pub(crate) fn put_plan(file: &mut [u8], windows: u16, given: usize, text: &[u8], from: usize) {
+// A plan that names so many windows and this minimum. It has the windows given, which stand in the text from a place on, and behind them, as
+// far as there is room, a staircase.
+pub(crate) fn put_plan(
+    file: &mut [u8],
+    windows: u16,
+    minimum: u32,
+    given: usize,
+    text: &[u8],
+    from: usize,
+) {
     wire::write_u16(file, 0, 12);
     wire::write_u16(file, 2, windows);
+    wire::write_u32(file, MINIMUM_PLACE, minimum);
     let mut at = from;
     let mut position = 0;
     while position < GREATEST_COUNT {
@@ -35,14 +42,14 @@ pub(crate) fn put_plan(file: &mut [u8], windows: u16, given: usize, text: &[u8],
             window = window_at(text, at);
             at = next_word(text, next_word(text, at));
         }
-        plan::write_window(window, file, HEADER_LENGTH + WINDOW_LENGTH * position);
+        plan::write_window(window, file, plan::window_place(position as u16));
         position += 1;
     }
 }
 
-// Paper 01's plan 12.
-pub(crate) fn plan_12() -> [u8; 60] {
-    let mut file = [0; 60];
-    put_plan(&mut file, 7, 7, b"0 10 2 3 4 12 9 2 12 6 17 1 18 4", 0);
+// Paper 01's plan 12, with minimum 1.
+pub(crate) fn plan_12() -> [u8; 64] {
+    let mut file = [0; 64];
+    put_plan(&mut file, 7, 1, 7, b"0 10 2 3 4 12 9 2 12 6 17 1 18 4", 0);
     file
 }

@@ -1,8 +1,8 @@
 // The papers' cases that are not among those to be proved, and some beside them: a line of standard input for each, which is printed
 // again with the answers of the library's calls behind it, as they cross into C. A line that is no case is printed as it is.
-//   file BYTES WINDOWS OFFSET LENGTH OFFSET LENGTH
-//       a file of so many bytes, with so many windows named, and the first two windows; its build, its short tags, and the chain
-//       between positions 0 and 1 with its table
+//   file BYTES WINDOWS MINIMUM OFFSET LENGTH OFFSET LENGTH
+//       a file of so many bytes, with so many windows and this minimum named, and the first two windows; its build, its short tags, and
+//       the chain between positions 0 and 1 with its table
 //   pair FIRST SECOND
 //       two positions of plan 12; their tags' pair, the build, the short tags, and the chain with its table
 //   window POSITION

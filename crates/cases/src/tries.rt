@@ -34,7 +34,16 @@ fn try_file(text: &[u8], at: usize) {
     let bytes = number_at(text, at) as usize;
     let named = next_word(text, at);
     let windows = (number_at(text, named) % 65536) as u16;
-    files::put_plan(&mut buffer, windows, 2, text, next_word(text, named));
+    let shared = next_word(text, named);
+    let minimum = (number_at(text, shared) % 4294967296) as u32;
+    files::put_plan(
+        &mut buffer,
+        windows,
+        minimum,
+        2,
+        text,
+        next_word(text, shared),
+    );
     if bytes <= BUFFER_LENGTH {
         try_plan(&buffer[..bytes], 0, 1);
     }

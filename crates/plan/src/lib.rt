@@ -7,6 +7,7 @@ mod windows;
 pub use figures::GREATEST_COUNT;
 pub use figures::GREATEST_END;
 pub use figures::HEADER_LENGTH;
+pub use figures::MINIMUM_PLACE;
 pub use figures::WINDOW_LENGTH;
 pub use header::minimum_handover;
 pub use questions::Validation;

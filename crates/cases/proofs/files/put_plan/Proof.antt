@@ -11,16 +11,19 @@ use Rattle.cases.proofs.files.put_plan.Statement.{statement}
 use Rattle.cases.proofs.files.put_plan.Tie as tie
 
 abbrev Inv-loop : tie.InvT-loop
-Inv-loop file₀ windows given text from at₀ position₀ file at position = (position ≤ greatestCount) × (length file ≡ length file₀)
+Inv-loop file₀ windows minimum given text from at₀ position₀ file at position = (position ≤ greatestCount) × (length file ≡ length file₀)
 
 abbrev μ-loop : tie.MeasureT-loop
-μ-loop file₀ windows given text from at₀ position₀ file at position = greatestCount - position
+μ-loop file₀ windows minimum given text from at₀ position₀ file at position = greatestCount - position
 
 write-u16-requires : tie.Need-write-u16-requires Inv-loop μ-loop
 write-u16-requires c κs = search needs
 
 write-u16-requires-2 : tie.Need-write-u16-requires-2 Inv-loop μ-loop
 write-u16-requires-2 c κs = search needs
+
+write-u32-requires : tie.Need-write-u32-requires Inv-loop μ-loop
+write-u32-requires c κs = search needs
 
 loop-holds : tie.Need-loop-holds Inv-loop μ-loop
 loop-holds c = omega arith
@@ -37,11 +40,11 @@ next-word-requires c κs = search needs
 next-word-requires-2 : tie.Need-next-word-requires-2 Inv-loop μ-loop
 next-word-requires-2 c κs = search needs
 
-mul-write-window : tie.Need-mul-write-window Inv-loop μ-loop
-mul-write-window c = omega arith
+cast-window-place : tie.Need-cast-window-place Inv-loop μ-loop
+cast-window-place c = omega arith
 
-add-write-window : tie.Need-add-write-window Inv-loop μ-loop
-add-write-window c = omega arith
+window-place-requires : tie.Need-window-place-requires Inv-loop μ-loop
+window-place-requires c κs = search needs
 
 write-window-requires : tie.Need-write-window-requires Inv-loop μ-loop
 write-window-requires c κs = search needs
@@ -63,6 +66,6 @@ returns c = search needs
 
 pub put-plan-spec : {M : Type 1} → statement M
 put-plan-spec =
-    tie.close (tie.spec Inv-loop μ-loop write-u16-requires write-u16-requires-2 loop-holds stair-requires window-at-requires
-    next-word-requires next-word-requires-2 mul-write-window add-write-window write-window-requires add-position loop-less loop-again
+    tie.close (tie.spec Inv-loop μ-loop write-u16-requires write-u16-requires-2 write-u32-requires loop-holds stair-requires window-at-requires
+    next-word-requires next-word-requires-2 cast-window-place window-place-requires write-window-requires add-position loop-less loop-again
     same-length returns)

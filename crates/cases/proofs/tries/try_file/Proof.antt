@@ -19,11 +19,20 @@ number-at-requires-2 c κs = search needs
 cast-windows : tie.Need-cast-windows
 cast-windows c = search needs
 
+next-word-requires-2 : tie.Need-next-word-requires-2
+next-word-requires-2 c κs = search needs
+
+number-at-requires-3 : tie.Need-number-at-requires-3
+number-at-requires-3 c κs = search needs
+
+cast-minimum : tie.Need-cast-minimum
+cast-minimum c = search needs
+
 slice-aggregate-put-plan : tie.Need-slice-aggregate-put-plan
 slice-aggregate-put-plan c = search needs
 
-next-word-requires-2 : tie.Need-next-word-requires-2
-next-word-requires-2 c κs = search needs
+next-word-requires-3 : tie.Need-next-word-requires-3
+next-word-requires-3 c κs = search needs
 
 put-plan-requires : tie.Need-put-plan-requires
 put-plan-requires c κs = search needs
@@ -45,5 +54,5 @@ returns-2 c = search needs
 
 pub try-file-spec : {M : Type 1} → statement M
 try-file-spec =
-    tie.close (tie.spec number-at-requires next-word-requires number-at-requires-2 cast-windows slice-aggregate-put-plan
-    next-word-requires-2 put-plan-requires array-share-prefix-buffer slice-aggregate-try-plan try-plan-requires returns returns-2)
+    tie.close (tie.spec number-at-requires next-word-requires number-at-requires-2 cast-windows next-word-requires-2 number-at-requires-3 cast-minimum slice-aggregate-put-plan
+    next-word-requires-3 put-plan-requires array-share-prefix-buffer slice-aggregate-try-plan try-plan-requires returns returns-2)
