@@ -36,9 +36,10 @@ fn find_lasts(file: &[u8], windows: usize, offsets: &[u32], lasts: &mut [u16])
     requires { ⌜ windows ≤ length (now lasts) ⌝ }
     ensures { λ _. ⌜ now (lasts .exit) ≡ overwritten (now (lasts .entry)) (table (lastOf (now (file .entry))) windows) ⌝ }
 {
+    let minimum = plan::minimum_handover(file);
     let mut position = 0;
     while position < windows {
-        lasts[position] = last_before(offsets, bound_at(file, position)) as u16;
+        lasts[position] = last_before(offsets, bound_at(file, minimum, position)) as u16;
         position += 1;
     }
 }

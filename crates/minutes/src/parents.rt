@@ -7,7 +7,7 @@ ghost use mathlib.Core.Path.{_≡_};
 ghost use Prim.Native.Nat.{_≤_};
 ghost use lib.ListN.{length};
 ghost use Rattle.sequences.specs.Table.{table, overwritten};
-ghost use Rattle.plan.specs.File.{windowCount};
+ghost use Rattle.plan.specs.File.{windowCount, minimumHandover};
 ghost use Rattle.plan.specs.Validation.{AcceptedPlan};
 ghost use Rattle.plan.specs.AcceptedWindows.{AcceptedWindows};
 ghost use Rattle.minutes.specs.Tables.{parentOf, boundAt};
@@ -15,15 +15,16 @@ ghost use Rattle.minutes.specs.SingleTable.{tableAnswerOf, afterTable};
 ghost use Rattle.minutes.specs.Passes.{FirstPast};
 
 // The first position from `from` on whose bound lies past the offset, or `to` where there is none before it.
-fn first_past(file: &[u8], offset: u32, from: usize, to: usize) -> usize
+fn first_past(file: &[u8], minimum: u32, offset: u32, from: usize, to: usize) -> usize
     requires { ⌜ AcceptedPlan (now file) ⌝ }
+    requires { ⌜ minimum ≡ minimumHandover (now file) ⌝ }
     requires { ⌜ from ≤ to ⌝ }
     requires { ⌜ to ≤ windowCount (now file) ⌝ }
     ensures { λ r. ⌜ FirstPast (boundAt (now (file .entry))) offset from to r ⌝ }
 {
     let mut at = from;
     while at < to {
-        if offset < bound_at(file, at) {
+        if offset < bound_at(file, minimum, at) {
             return at;
         }
         at += 1;
@@ -36,10 +37,11 @@ pub(crate) fn find_parents(file: &[u8], windows: usize, parents: &mut [u16])
     requires { ⌜ windows ≤ length (now parents) ⌝ }
     ensures { λ _. ⌜ now (parents .exit) ≡ overwritten (now (parents .entry)) (table (parentOf (now (file .entry))) windows) ⌝ }
 {
+    let minimum = plan::minimum_handover(file);
     let mut parent = 0;
     let mut position = 0;
     while position < windows {
-        parent = first_past(file, offset_at(file, position), parent, position);
+        parent = first_past(file, minimum, offset_at(file, position), parent, position);
         parents[position] = parent as u16;
         position += 1;
     }

@@ -5,7 +5,7 @@ ghost use mathlib.Core.Path.{_≡_};
 ghost use Prim.Native.Nat.{_≤_, _<_};
 ghost use lib.ListN.{length};
 ghost use Rattle.sequences.specs.Table.{table, overwritten};
-ghost use Rattle.plan.specs.File.{windowCount, windowAt};
+ghost use Rattle.plan.specs.File.{windowCount, minimumHandover, windowAt};
 ghost use Rattle.plan.specs.Validation.{AcceptedPlan};
 ghost use Rattle.plan.specs.AcceptedWindows.{AcceptedWindows};
 ghost use Rattle.minutes.specs.Tables.{offsetAt, boundAt};
@@ -29,13 +29,14 @@ pub(crate) fn offset_at(file: &[u8], position: usize) -> u32
 
 // What a later window that overlaps the one at a position begins before. In an accepted plan no minimum is past an end, and bounds fit 32
 // bits.
-pub(crate) fn bound_at(file: &[u8], position: usize) -> u32
+pub(crate) fn bound_at(file: &[u8], minimum: u32, position: usize) -> u32
     requires { ⌜ AcceptedPlan (now file) ⌝ }
+    requires { ⌜ minimum ≡ minimumHandover (now file) ⌝ }
     requires { ⌜ position < windowCount (now file) ⌝ }
     ensures { λ r. ⌜ r ≡ boundAt (now (file .entry)) position ⌝ }
 {
     let end = plan::window_end(window_at(file, position));
-    (end - (plan::minimum_handover(file) as u64 - 1)) as u32
+    (end - (minimum as u64 - 1)) as u32
 }
 
 pub(crate) fn read_offsets(file: &[u8], windows: usize, offsets: &mut [u32])

@@ -16,12 +16,13 @@ fn count_neighbours(file: &[u8], windows: usize, at: usize) -> usize
     requires { ⌜ at < windows ⌝ }
     ensures { λ r. ⌜ r ≡ length (neighboursOf (now (file .entry)) at) ⌝ }
 {
+    let minimum = plan::minimum_handover(file);
     let window = window_at(file, at);
     let mut found = 0;
     let mut position = 0;
     while position < windows {
         // A sum and not a branch: which windows overlap cannot be foreseen.
-        found += meets(file, at, window, position) as usize;
+        found += meets(file, minimum, at, window, position) as usize;
         position += 1;
     }
     found
@@ -33,11 +34,12 @@ fn write_neighbours(file: &[u8], windows: usize, at: usize, out: &mut [u16])
     requires { ⌜ length (neighboursOf (now file) at) ≤ length (now out) ⌝ }
     ensures { λ _. ⌜ now (out .exit) ≡ overwritten (now (out .entry)) (neighboursOf (now (file .entry)) at) ⌝ }
 {
+    let minimum = plan::minimum_handover(file);
     let window = window_at(file, at);
     let mut found = 0;
     let mut position = 0;
     while position < windows {
-        if meets(file, at, window, position) {
+        if meets(file, minimum, at, window, position) {
             out[found] = position as u16;
             found += 1;
         }

@@ -3,7 +3,7 @@ use plan::WINDOW_LENGTH;
 use plan::Window;
 ghost use mathlib.Core.Path.{_≡_};
 ghost use Prim.Native.Nat.{_<_};
-ghost use Rattle.plan.specs.File.{windowCount, windowAt};
+ghost use Rattle.plan.specs.File.{windowCount, minimumHandover, windowAt};
 ghost use Rattle.plan.specs.Overlap.{overlaps};
 ghost use Rattle.plan.specs.Validation.{AcceptedPlan};
 
@@ -17,8 +17,9 @@ pub(crate) fn window_at(file: &[u8], position: usize) -> Window
 }
 
 // Whether a window that was read overlaps the one at a second position. No window overlaps itself.
-pub(crate) fn meets(file: &[u8], first: usize, window: Window, second: usize) -> bool
+pub(crate) fn meets(file: &[u8], minimum: u32, first: usize, window: Window, second: usize) -> bool
     requires { ⌜ AcceptedPlan (now file) ⌝ }
+    requires { ⌜ minimum ≡ minimumHandover (now file) ⌝ }
     requires { ⌜ window ≡ windowAt (now file) first ⌝ }
     requires { ⌜ first < windowCount (now file) ⌝ }
     requires { ⌜ second < windowCount (now file) ⌝ }
@@ -27,7 +28,6 @@ pub(crate) fn meets(file: &[u8], first: usize, window: Window, second: usize) ->
     if first == second {
         return false;
     }
-    let minimum = plan::minimum_handover(file);
     let other = window_at(file, second);
     if first < second {
         return plan::overlap_in_order(minimum, window, other);

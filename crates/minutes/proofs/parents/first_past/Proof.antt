@@ -9,13 +9,13 @@ use Rattle.minutes.proofs.parents.first_past.Statement.{statement}
 use Rattle.minutes.proofs.parents.first_past.Tie as tie
 
 abbrev Inv-loop : tie.InvT-loop
-Inv-loop file offset from to at₀ at = NonePast (boundAt file) offset from to at
+Inv-loop file minimum offset from to at₀ at = NonePast (boundAt file) offset from to at
 
 abbrev μ-loop : tie.MeasureT-loop
-μ-loop file offset from to at₀ at = to - at
+μ-loop file minimum offset from to at₀ at = to - at
 
 loop-holds : tie.Need-loop-holds Inv-loop μ-loop
-loop-holds c = none-past-start _ _ _ _ (c .before .pre .1 .0)
+loop-holds c = none-past-start _ _ _ _ (c .before .pre .1 .1 .0)
 
 bound-at-requires : tie.Need-bound-at-requires Inv-loop μ-loop
 bound-at-requires c κs = search needs

@@ -12,30 +12,24 @@ window-at-requires c κs = search needs
 window-end-requires : tie.Need-window-end-requires
 window-end-requires c κs = search needs
 
-minimum-handover-requires : tie.Need-minimum-handover-requires
-minimum-handover-requires c κs = search needs
-
-cast-result : tie.Need-cast-result
-cast-result c = search needs
-
 sub-result : tie.Need-sub-result
-sub-result c = let w = c .before .before in let q = w .before .before .pre in
-    bound-formed _ (q .0) _ (q .1) _ _ _ (w .window-at .ensures) (c .before .window-end .ensures) (c .minimum-handover .ensures) .0
+sub-result c = let w = c .before in let q = w .before .before .pre in
+    bound-formed _ (q .0) _ (q .1 .1) _ _ _ (w .window-at .ensures) (c .window-end .ensures) (q .1 .0) .0
 
 sub-result-2 : tie.Need-sub-result-2
-sub-result-2 c = let w = c .before .before in let q = w .before .before .pre in
-    bound-formed _ (q .0) _ (q .1) _ _ _ (w .window-at .ensures) (c .before .window-end .ensures) (c .minimum-handover .ensures) .1
+sub-result-2 c = let w = c .before in let q = w .before .before .pre in
+    bound-formed _ (q .0) _ (q .1 .1) _ _ _ (w .window-at .ensures) (c .window-end .ensures) (q .1 .0) .1
 
-cast-result-2 : tie.Need-cast-result-2
-cast-result-2 c = let w = c .before .before in let q = w .before .before .pre in
-    let formed = bound-formed _ (q .0) _ (q .1) _ _ _ (w .window-at .ensures) (c .before .window-end .ensures) (c .minimum-handover .ensures) in
+cast-result : tie.Need-cast-result
+cast-result c = let w = c .before in let q = w .before .before .pre in
+    let formed = bound-formed _ (q .0) _ (q .1 .1) _ _ _ (w .window-at .ensures) (c .window-end .ensures) (q .1 .0) in
     omega (arith, formed .2)
 
 returns : tie.Need-returns
-returns c = let w = c .before .before in let q = w .before .before .pre in
-    bound-read _ (q .0) _ (q .1) _ _ _ (w .window-at .ensures) (c .before .window-end .ensures) (c .minimum-handover .ensures)
+returns c = let w = c .before in let q = w .before .before .pre in
+    bound-read _ (q .0) _ (q .1 .1) _ _ _ (w .window-at .ensures) (c .window-end .ensures) (q .1 .0)
 
 pub bound-at-spec : {M : Type 1} → statement M
 bound-at-spec =
-    tie.close (tie.spec window-at-requires window-end-requires minimum-handover-requires cast-result sub-result sub-result-2 cast-result-2
+    tie.close (tie.spec window-at-requires window-end-requires sub-result sub-result-2 cast-result
     returns)

@@ -11,21 +11,32 @@ use Rattle.path.proofs.neighbourhood.count_neighbours.Statement.{statem
 use Rattle.path.proofs.neighbourhood.count_neighbours.Tie as tie
 
 abbrev Inv-loop : tie.InvT-loop
-Inv-loop file windows at window found₀ position₀ found position = Counted (overlaps file at) windows found position
+Inv-loop file windows at minimum window found₀ position₀ found position = Counted (overlaps file at) windows found position
 
 abbrev μ-loop : tie.MeasureT-loop
-μ-loop file windows at window found₀ position₀ found position = windows - position
+μ-loop file windows at minimum window found₀ position₀ found position = windows - position
+
+minimum-handover-requires : tie.Need-minimum-handover-requires Inv-loop μ-loop
+minimum-handover-requires c κs = search needs
 
 window-at-requires : tie.Need-window-at-requires Inv-loop μ-loop
-window-at-requires c κs = let p = c .before .pre .0 in (p .accepted, omega (arith, p .counted))
+window-at-requires c κs = let p = c .before .before .pre .0 in (p .accepted, omega (arith, p .counted))
 
 loop-holds : tie.Need-loop-holds Inv-loop μ-loop
 loop-holds c = counted-start _ _
 
 meets-requires : tie.Need-meets-requires Inv-loop μ-loop
-meets-requires c κs = let d = c .before .before .before .before in
-    let p = d .pre .0 in
-    (p .accepted, (c .before .before .window-at .ensures, (omega (arith, p .counted), omega (arith, p .counted))))
+meets-requires c κs = let d = c .before .before .before .before .before in
+    let p = d .pre .0 in (
+      p .accepted,
+      (
+        c .before .before .before .minimum-handover .ensures,
+        (
+          c .before .before .window-at .ensures,
+          (omega (arith, p .counted), omega (arith, p .counted)),
+        ),
+      ),
+    )
 
 cast-found : tie.Need-cast-found Inv-loop μ-loop
 cast-found c = search needs
@@ -43,10 +54,10 @@ loop-again : tie.Need-loop-again Inv-loop μ-loop
 loop-again c = counted-turn _ _ _ _ (c .before .loop-test .taken) _ (sym (c .meets .ensures)) (c .before .before .loop .inv)
 
 returns : tie.Need-returns Inv-loop μ-loop
-returns c = let d = c .before .before .before .before in
+returns c = let d = c .before .before .before .before .before in
     rw (← listing-neighbours _ _ _ (d .pre .0 .counted)) (counted-end _ _ _ _ (c .loop-test .left) (c .before .loop .inv))
 
 pub count-neighbours-spec : {M : Type 1} → statement M
 count-neighbours-spec =
-    tie.close (tie.spec Inv-loop μ-loop window-at-requires loop-holds meets-requires cast-found add-found add-position loop-less loop-again
+    tie.close (tie.spec Inv-loop μ-loop minimum-handover-requires window-at-requires loop-holds meets-requires cast-found add-found add-position loop-less loop-again
     returns)

@@ -14,33 +14,37 @@ use Rattle.path.proofs.walk.climb_steps.Statement.{statement}
 use Rattle.path.proofs.walk.climb_steps.Tie as tie
 
 abbrev Inv-loop : tie.InvT-loop
-Inv-loop file parents earlier later at₀ steps₀ at steps = Climbing (windowCount file) (overlaps file) earlier later at steps
+Inv-loop file parents earlier later minimum at₀ steps₀ at steps = Climbing (windowCount file) (overlaps file) earlier later at steps
 
 abbrev μ-loop : tie.MeasureT-loop
-μ-loop file parents earlier later at₀ steps₀ at steps = at
+μ-loop file parents earlier later minimum at₀ steps₀ at steps = at
+
+minimum-handover-requires : tie.Need-minimum-handover-requires Inv-loop μ-loop
+minimum-handover-requires c κs = search needs
 
 loop-holds : tie.Need-loop-holds Inv-loop μ-loop
 loop-holds c = climbing-start _ _ _ _
 
 is-past-requires : tie.Need-is-past-requires Inv-loop μ-loop
-is-past-requires c κs = let d = c .before .before .before in (d .pre .0 .accepted, (d .pre .1 .0, omega (arith, c .loop .inv .fell)))
+is-past-requires c κs = let d = c .before .before .before .before in
+    (d .pre .0 .accepted, (c .before .minimum-handover .ensures, (d .pre .1 .0, omega (arith, c .loop .inv .fell))))
 
 mul-parent : tie.Need-mul-parent Inv-loop μ-loop
 mul-parent c = search needs
 
 shared-slice-read-parent : tie.Need-shared-slice-read-parent Inv-loop μ-loop
-shared-slice-read-parent c = let d = c .before .before .before .before .before .before in
+shared-slice-read-parent c = let d = c .before .before .before .before .before .before .before in
     omega (arith, handed-long (d .pre .0), c .before .before .before .loop .inv .fell)
 
 cast-parent : tie.Need-cast-parent Inv-loop μ-loop
 cast-parent c = omega (arith, c .shared-slice-known3 .given (c .before .before .before .loop .at))
 
 add-result : tie.Need-add-result Inv-loop μ-loop
-add-result c = let d = c .before .before .before .before .before .before .before in
+add-result c = let d = c .before .before .before .before .before .before .before .before in
     omega (arith, handed-few (d .pre .0))
 
 returns : tie.Need-returns Inv-loop μ-loop
-returns c = let e = c .before .before .before in let f = e .before .before .before .before in
+returns c = let e = c .before .before .before in let f = e .before .before .before .before .before in
     let d = f in
     let s = e .before .loop in
     climbing-root _ _ _ _ _ _ (s .inv) (past-true _ _ _ (e .is-past .ensures) (c .before .before .if1 .taken))
@@ -50,12 +54,12 @@ add-steps : tie.Need-add-steps Inv-loop μ-loop
 add-steps c = search needs
 
 loop-less : tie.Need-loop-less Inv-loop μ-loop
-loop-less c = let d = c .before .before .before .before .before .before .before in
+loop-less c = let d = c .before .before .before .before .before .before .before .before in
     let s = c .before .before .before .before .loop in
     omega (arith, handed-parent (d .pre .0) (s .at) (omega (arith, s .inv .fell)), parent-le (overlaps (now (d .args .file))) (s .at))
 
 loop-again : tie.Need-loop-again Inv-loop μ-loop
-loop-again c = let e = c .before .before .before in let f = e .before .before .before .before in
+loop-again c = let e = c .before .before .before in let f = e .before .before .before .before .before in
     let d = f in
     let s = e .before .loop in
     climbing-turn _ _ _ _ _ _ (s .inv) _ (past-true _ _ _ (e .is-past .ensures) (c .before .before .if1 .taken))
@@ -66,5 +70,5 @@ returns-2 c = climbing-arrived _ _ _ _ _ _ (c .before .before .loop .inv) (past-
 
 pub climb-steps-spec : {M : Type 1} → statement M
 climb-steps-spec =
-    tie.close (tie.spec Inv-loop μ-loop loop-holds is-past-requires mul-parent shared-slice-read-parent cast-parent add-result returns
+    tie.close (tie.spec Inv-loop μ-loop minimum-handover-requires loop-holds is-past-requires mul-parent shared-slice-read-parent cast-parent add-result returns
     add-steps loop-less loop-again returns-2)

@@ -18,7 +18,7 @@ meets-requires c κs = search needs
 
 returns-2 : tie.Need-returns-2
 returns-2 c = let d = c .before .before .before .before in
-    past-apart (interval-order _ (d .pre .0)) _ _ _ (c .before .before .if1 .left) (d .pre .1 .1) (c .meets .ensures)
+    past-apart (interval-order _ (d .pre .0)) _ _ _ (c .before .before .if1 .left) (d .pre .1 .1 .1) (c .meets .ensures)
 
 pub is-past-spec : {M : Type 1} → statement M
 is-past-spec = tie.close (tie.spec returns window-at-requires meets-requires returns-2)
