@@ -6,7 +6,7 @@ caller lends. A refusal is raised; "no chain" is None.
 """
 from collections import namedtuple
 
-Plan = namedtuple("Plan", "number offsets lengths ends")
+Plan = namedtuple("Plan", "number minimum offsets lengths ends")
 Tree = namedtuple("Tree", "parents components depths ranks last_ranks")
 Tag = namedtuple("Tag", "plan component depth rank last")
 ShortTag = namedtuple("ShortTag", "plan component depth rank")
@@ -30,16 +30,16 @@ class Reader:
     # The questions, each with its yes or no, and the refusal that a "no" gives.
 
     def question_1(self, file):
-        return len(file) >= 4
+        return len(file) >= 8
 
     def question_2(self, windows):
         return windows <= 2048
 
     def question_3(self, file, windows):
-        return len(file) == 4 + 8 * windows
+        return len(file) == 8 + 8 * windows
 
-    def question_4(self, offset, length):
-        return length >= 1
+    def question_4(self, length, minimum):
+        return length >= minimum
 
     def question_5(self, offset, length):
         return offset + length <= 10_000_000
@@ -71,6 +71,9 @@ class Reader:
     def question_13(self, end, before):
         return end >= before
 
+    def question_14(self, minimum):
+        return 1 <= minimum <= 86_400
+
     def ask(self, yes, number, input=0, position=0):
         if not yes:
             raise Refused(number, input, position)
@@ -80,8 +83,11 @@ class Reader:
     def header(self, file):
         return self.number(file[0:2]), self.number(file[2:4])
 
+    def minimum(self, file):
+        return self.number(file[4:8])
+
     def window(self, file, position):
-        part = file[4 + 8 * position : 12 + 8 * position]
+        part = file[8 + 8 * position : 16 + 8 * position]
         return self.number(part[:4]), self.number(part[4:])
 
     def end(self, offset, length):
@@ -89,23 +95,24 @@ class Reader:
 
     def read_plan(self, file, input=0):
         self.ask_file(file, input)
-        number, windows = self.header(file)
+        (number, windows), minimum = self.header(file), self.minimum(file)
         pairs = [self.window(file, position) for position in range(windows)]
-        self.ask_windows(pairs, input)
-        return Plan(number, [o for o, _ in pairs], [l for _, l in pairs], [self.end(o, l) for o, l in pairs])
+        self.ask_windows(pairs, minimum, input)
+        return Plan(number, minimum, [o for o, _ in pairs], [l for _, l in pairs], [self.end(o, l) for o, l in pairs])
 
     def ask_file(self, file, input):
         self.ask(self.question_1(file), 1, input)
         windows = self.header(file)[1]
         self.ask(self.question_2(windows), 2, input)
+        self.ask(self.question_14(self.minimum(file)), 14, input)
         self.ask(self.question_3(file, windows), 3, input)
 
-    def ask_windows(self, pairs, input):
+    def ask_windows(self, pairs, minimum, input):
         for position in range(len(pairs)):
-            self.ask_window(pairs, position, input)
+            self.ask_window(pairs, minimum, position, input)
 
-    def ask_window(self, pairs, position, input):
-        self.ask(self.question_4(*pairs[position]), 4, input, position)
+    def ask_window(self, pairs, minimum, position, input):
+        self.ask(self.question_4(pairs[position][1], minimum), 4, input, position)
         self.ask(self.question_5(*pairs[position]), 5, input, position)
         if position > 0:
             self.ask(self.question_6(pairs[position][0], pairs[position - 1][0]), 6, input, position)
@@ -114,7 +121,7 @@ class Reader:
 
     def overlap(self, plan, u, v):
         """Of u before v."""
-        return plan.ends[u] > plan.offsets[v]
+        return plan.offsets[v] + plan.minimum <= plan.ends[u]
 
     def overlapping(self, plan, u, v):
         if u == v:

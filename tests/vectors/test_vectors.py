@@ -17,11 +17,11 @@ from library import Library
 from reader import Reader
 from vectors import CALLS, DOCS, FOLDER, Malformed, all_vectors, bytes_of_rows, parse_file, parse_vector, passes, said
 from vectors import without_comment, words_of
-from wrong_short_readers import WRONG
+from wrong_minimum_readers import WRONG
 
 VECTORS = sorted(all_vectors(), key=lambda one: 10**9 if one.where.startswith("long.txt") else len(one.text))  # The quick first.
 DOCUMENT = (DOCS / "FORMAT.md").read_text(encoding="utf-8")
-QUESTIONS = range(1, 14)
+QUESTIONS = range(1, 15)
 NOT_IN_C = ["parents", "lasts", "read", "short_read"]
 SLIPS = (
     "pair 00 00",
@@ -119,7 +119,7 @@ class Document(unittest.TestCase):
         self.assertEqual([text for text in shown if text not in stored], [])
 
     def test_plan_12_is_the_one_of_the_vectors(self):
-        file, tags, *_ = octets(8, 7, 9, 8)
+        file, _, tags, *_ = octets(8, 3, 7, 9, 8)
         rows = table("position", "parent", "component", "depth", "rank", "last", "rank of the last")
         numbers = [list(map(int, row)) for row in rows]
         positions, parents, components, depths, ranks, lasts, last_ranks = map(list, zip(*numbers))
@@ -133,12 +133,23 @@ class Document(unittest.TestCase):
         stored = [(vector.call, vector.answer) for vector in VECTORS if vector.arguments[0] == file]
         self.assertEqual([one for one in due if one not in stored], [])
 
+    def test_the_overlap_that_it_works_out_is_the_one_of_the_vectors(self):
+        """With minimums of 5, 6 and 11, of which the document says what they change."""
+        _, file, *_ = octets(8, 3, 7, 9, 8)
+        minimums = {minimum: file[:4] + struct.pack("<I", minimum) + file[8:] for minimum in (5, 6, 11)}
+        self.assertEqual(minimums[5], file)
+        self.assertEqual([at for at in range(len(file)) if minimums[6][at] != file[at]], [4])
+        stored = [(vector.call, vector.arguments, vector.answer) for vector in VECTORS]
+        self.assertIn(("chain", (minimums[5], 0, 1, 2), ("chain", [1, 0])), stored)
+        self.assertIn(("chain", (minimums[6], 0, 1, 2), ("no_chain",)), stored)
+        self.assertIn(("validate", (minimums[11],), ("refused", 4, 0, 0)), stored)
+
     def test_plan_14_is_the_one_of_the_vectors(self):
-        *_, file, tags = octets(8, 7, 9, 8)
+        *_, file, tags = octets(8, 3, 7, 9, 8)
         rows = table("position", "end", "parent", "component", "depth", "rank")
         positions, ends, parents, components, depths, ranks = map(list, zip(*(map(int, row) for row in rows)))
         self.assertEqual(positions, list(range(8)))
-        pairs = struct.iter_unpack("<II", file[4:])
+        pairs = struct.iter_unpack("<II", file[8:])
         self.assertEqual(ends, [offset + length for offset, length in pairs])
         self.assertEqual(tags, bytes_of_rows((14, *row) for row in zip(components, depths, ranks)))
         stored = [(vector.call, vector.answer) for vector in VECTORS if vector.arguments[0] == file]

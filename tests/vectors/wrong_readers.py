@@ -52,18 +52,18 @@ wrong("EndForLength", "the second number of a window taken for its end", end=lam
 
 # Questions 1 to 6.
 
-wrong("FiveBytesForOne", "1 asks for more than 4 bytes", question_1=lambda self, file: len(file) > 4)
-wrong("ThreeBytesForOne", "1 asks for 3 bytes", question_1=lambda self, file: len(file) >= 3)
+wrong("NineBytesForOne", "1 asks for more than 8 bytes", question_1=lambda self, file: len(file) > 8)
+wrong("SevenBytesForOne", "1 asks for 7 bytes", question_1=lambda self, file: len(file) >= 7)
 wrong("FewerThan2048", "2 asks for fewer than 2,048 windows", question_2=lambda self, windows: windows < 2048)
 wrong("UpTo2049", "2 lets 2,049 windows pass", question_2=lambda self, windows: windows <= 2049)
 wrong("NoTwo", "2 is not asked", question_2=lambda self, windows: True)
 wrong("LongerFile", "3 lets a file pass that is longer than its windows",
-      question_3=lambda self, file, windows: len(file) >= 4 + 8 * windows)
+      question_3=lambda self, file, windows: len(file) >= 8 + 8 * windows)
 wrong("ShorterFile", "3 lets a file pass that is shorter than its windows",
-      question_3=lambda self, file, windows: len(file) <= 4 + 8 * windows)
-wrong("WholeWindows", "3 asks only for whole windows", question_3=lambda self, file, windows: (len(file) - 4) % 8 == 0)
-wrong("LengthZero", "4 is not asked", question_4=lambda self, offset, length: True)
-wrong("LengthTwo", "4 asks for more than 1", question_4=lambda self, offset, length: length > 1)
+      question_3=lambda self, file, windows: len(file) <= 8 + 8 * windows)
+wrong("WholeWindows", "3 asks only for whole windows", question_3=lambda self, file, windows: len(file) % 8 == 0)
+wrong("NoFour", "4 is not asked", question_4=lambda self, length, minimum: True)
+wrong("LongerThanTheMinimum", "4 asks for more than the minimum", question_4=lambda self, length, minimum: length > minimum)
 wrong("SumIn32Bits", "the sum of 5 in 32 bits", question_5=lambda self, offset, length: (offset + length) % 2**32 <= 10_000_000)
 wrong("EndBelowLimit", "5 asks for an end below 10,000,000", question_5=lambda self, offset, length: offset + length < 10_000_000)
 wrong("LastMinuteForEnd", "5 asked of the last minute that a window covers",
@@ -73,18 +73,21 @@ wrong("FiveOfEachNumber", "5 asked of the offset and of the length, not of their
       question_5=lambda self, offset, length: max(offset, length) <= 10_000_000)
 wrong("EqualOffsetsRefused", "6 asks for a greater offset", question_6=lambda self, offset, before: offset > before)
 wrong("NoSix", "6 is not asked; windows are sorted by offset instead",
-      ask_windows=lambda self, pairs, input: (pairs.sort(), Reader.ask_windows(self, pairs, input)))
+      ask_windows=lambda self, pairs, minimum, input: (pairs.sort(), Reader.ask_windows(self, pairs, minimum, input)))
 wrong("SixOfTheFirst", "6 compares with the offset of window 0",
-      ask_window=lambda self, pairs, at, input: Reader.ask_window(self, [pairs[0]] * at + [pairs[at]], at, input))
+      ask_window=lambda self, pairs, minimum, at, input: Reader.ask_window(
+          self, [pairs[0]] * at + [pairs[at]], minimum, at, input))
 wrong("SixOfTheEnd", "6 compares with the end of the window before",
-      ask_window=lambda self, pairs, at, input: Reader.ask_window(
-          self, [(sum(pair), 0) for pair in pairs[:at]] + pairs[at:], at, input))
+      ask_window=lambda self, pairs, minimum, at, input: Reader.ask_window(
+          self, [(sum(pair), 0) for pair in pairs[:at]] + pairs[at:], minimum, at, input))
 wrong("FirstWindowSkipped", "4 and 5 are not asked of window 0",
-      ask_windows=lambda self, pairs, input: [self.ask_window(pairs, at, input) for at in range(1, len(pairs))])
+      ask_windows=lambda self, pairs, minimum, input: [
+          self.ask_window(pairs, minimum, at, input) for at in range(1, len(pairs))])
 wrong("LastWindowSkipped", "4, 5 and 6 are not asked of the last window",
-      ask_windows=lambda self, pairs, input: Reader.ask_windows(self, pairs[:-1], input))
+      ask_windows=lambda self, pairs, minimum, input: Reader.ask_windows(self, pairs[:-1], minimum, input))
 wrong("LastRefusal", "the last window that is refused is reported, not the first",
-      ask_windows=lambda self, pairs, input: [self.ask_window(pairs, at, input) for at in reversed(range(len(pairs)))])
+      ask_windows=lambda self, pairs, minimum, input: [
+          self.ask_window(pairs, minimum, at, input) for at in reversed(range(len(pairs)))])
 
 
 @mistaken("3 before 2")
@@ -93,7 +96,7 @@ class ThreeBeforeTwo(Reader):
         self.ask(self.question_1(file), 1, input)
         windows = self.header(file)[1]
         self.ask(self.question_3(file, windows), 3, input)
-        self.ask(self.question_2(windows), 2, input)
+        super().ask_file(file, input)
 
 
 class InRounds(Reader):
@@ -101,11 +104,12 @@ class InRounds(Reader):
 
     ROUNDS = ((4, 5, 6),)
 
-    def ask_windows(self, pairs, input):
+    def ask_windows(self, pairs, minimum, input):
         for numbers in self.ROUNDS:
             for at, (offset, length) in enumerate(pairs):
                 before = pairs[at - 1][0] if at > 0 else 0
-                yes = {4: self.question_4(offset, length), 5: self.question_5(offset, length), 6: self.question_6(offset, before)}
+                yes = {4: self.question_4(length, minimum), 5: self.question_5(offset, length)}
+                yes[6] = self.question_6(offset, before)
                 for number in numbers:
                     self.ask(yes[number], number, input, at)
 
@@ -147,13 +151,14 @@ refusing("NumberOfTheList", "questions numbered from 0", lambda number, input, a
 
 # Overlap and the tree.
 
-wrong("Touching", "windows that touch taken as overlapping", overlap=lambda self, plan, u, v: plan.ends[u] >= plan.offsets[v])
+wrong("Touching", "windows that touch taken as overlapping",
+      overlap=lambda self, plan, u, v: plan.ends[u] == plan.offsets[v] or Reader.overlap(self, plan, u, v))
 wrong("StrictOffsets", "windows of equal offset taken as not overlapping",
-      overlap=lambda self, plan, u, v: plan.offsets[u] < plan.offsets[v] < plan.ends[u])
-wrong("TwoMinutes", "one shared minute is not enough",
-      overlap=lambda self, plan, u, v: min(plan.ends[u], plan.ends[v]) - plan.offsets[v] > 1)
+      overlap=lambda self, plan, u, v: plan.offsets[u] < plan.offsets[v] and Reader.overlap(self, plan, u, v))
+wrong("TwoMinutes", "one shared minute is not enough, though the minimum is 1",
+      overlap=lambda self, plan, u, v: Reader.overlap(self, plan._replace(minimum=max(plan.minimum, 2)), u, v))
 wrong("Contained", "a window inside another taken as not overlapping it",
-      overlap=lambda self, plan, u, v: plan.offsets[v] < plan.ends[u] < plan.ends[v])
+      overlap=lambda self, plan, u, v: plan.ends[u] < plan.ends[v] and Reader.overlap(self, plan, u, v))
 wrong("NearestParent", "the parent is the nearest window before that overlaps, not the smallest position",
       parent=lambda self, plan, v: next((u for u in reversed(range(v)) if self.overlap(plan, u, v)), v))
 wrong("LongestParent", "the parent is the window before that overlaps and ends last",
@@ -682,7 +687,7 @@ wrong("SecondFileFirst", "the second file read first",
       same=lambda self, first, second: self.read_plan(second, 1) and Reader.same(self, first, second))
 
 
-@mistaken("1, 2 and 3 for both files before 4, 5 and 6 for the first")
+@mistaken("1, 2, 14 and 3 for both files before 4, 5 and 6 for the first")
 class QuestionByQuestion(Reader):
     def same(self, first, second):
         self.ask_file(first, 0)

@@ -65,17 +65,17 @@ class InTurn(AskedBefore):
         self.ask_file(file, 0)
         pairs = [self.window(file, at) for at in range(self.header(file)[1])]
         for at in range(len(pairs)):
-            self.turn(pairs, at)
+            self.turn(pairs, self.minimum(file), at)
 
-    def thirteen(self, pairs, at):
+    def thirteen(self, pairs, minimum, at):
         if at > 0:
             self.ask(self.question_13(sum(pairs[at]), sum(pairs[at - 1])), 13, 0, at)
 
 
 wrong("ThirteenOfEachWindow", "13 of a window before 4, 5 and 6 of the next", InTurn,
-      turn=lambda self, pairs, at: (self.ask_window(pairs, at, 0), self.thirteen(pairs, at)))
+      turn=lambda self, pairs, minimum, at: (self.ask_window(pairs, minimum, at, 0), self.thirteen(pairs, minimum, at)))
 wrong("ThirteenBeforeSix", "13 of a window before its own 4, 5 and 6", InTurn,
-      turn=lambda self, pairs, at: (self.thirteen(pairs, at), self.ask_window(pairs, at, 0)))
+      turn=lambda self, pairs, minimum, at: (self.thirteen(pairs, minimum, at), self.ask_window(pairs, minimum, at, 0)))
 wrong("ThirteenOfAllFirst", "13 of all windows before 4, 5 and 6 of any", InTurn, turn=InTurn.thirteen)
 
 # Writing.
