@@ -8,6 +8,12 @@
     >>> print(poddreshi.pair(tags[40:50], tags[50:60]))
     1 handover
 
+Two windows overlap when they share at least the plan's minimum handover, which is 1 minute where none is given.
+
+    >>> bolting = poddreshi.pack(21, [(0, 60), (20, 90), (50, 70)], minimum=30)
+    >>> poddreshi.chain(bolting, 0, 2)
+    Chain(positions=(2, 1, 0))
+
 Where no window of a plan ends before the one ahead of it, short tags of eight bytes are enough.
 
     >>> even = pathlib.Path("examples/even.plan").read_bytes()
@@ -22,12 +28,13 @@ from .calls import Accepted, Chain, Handovers, Neighbours, Reach, Sameness, Shor
 from .calls import build, chain, lookup, neighbours, pair, pair_at, reach, read, same, tags, validate, write
 from .calls import short_lookup, short_pair, short_pair_at, short_read, short_tags, short_write
 from .library import LibraryMissing
-from .plans import Window, pack, windows_of
+from .oldplans import renewed
+from .plans import Window, minimum_of, pack, windows_of
 from .refusals import Refused
 
 __all__ = [
     *("Accepted", "Chain", "Handovers", "LibraryMissing", "Neighbours", "Reach", "Refused", "Sameness", "ShortTag", "Tag"),
-    *("Tags", "Tree", "Window", "__version__", "build", "chain", "lookup", "neighbours", "pack", "pair", "pair_at", "reach"),
-    *("read", "same", "short_lookup", "short_pair", "short_pair_at", "short_read", "short_tags", "short_write", "tags"),
-    *("validate", "windows_of", "write"),
+    *("Tags", "Tree", "Window", "__version__", "build", "chain", "lookup", "minimum_of", "neighbours", "pack", "pair"),
+    *("pair_at", "reach", "read", "renewed", "same", "short_lookup", "short_pair", "short_pair_at", "short_read", "short_tags"),
+    *("short_write", "tags", "validate", "windows_of", "write"),
 ]

@@ -7,12 +7,11 @@ import shutil
 import signal
 import sys
 import textwrap
-from datetime import datetime
 from typing import Callable, Iterator, NamedTuple, Optional, Sequence
 
-from . import building, calls, failures, files, figures, names, places, times
+from . import building, calls, failures, files, figures, names, places, texts, times
 from ._version import __version__
-from .failures import Failure, Mistake
+from .failures import Failure, Mistake, Unfit
 from .given import Given
 from .library import LibraryMissing
 from .plans import windows_of
@@ -22,7 +21,7 @@ from .texts import Faulty
 from .times import Clock
 from .wording import cited
 
-DESCRIPTION = """Service windows, their distance tree and ten-byte tags. PLAN, TEXT, TAGS, TAG and RIGS are files, or - for
+DESCRIPTION = """Service windows, their distance tree and ten-byte tags. PLAN, OLD, TEXT, TAGS, TAG and RIGS are files, or - for
 standard input."""
 STATUS = """The exit status is 0 for an answer, 1 where an input is refused, 2 where the command is mistaken and 3 where an input
 or an output failed. With --exit-code it is 4 for the answers "no chain" and "different". A refusal goes to standard error in
@@ -66,11 +65,16 @@ def command(*words, **options) -> Callable[[Callable], Command]:
     return lambda run: Command(run, *words, **options)
 
 
-def date(words: str) -> datetime:
-    try:
-        return times.date(words)
-    except ValueError as error:
-        raise argparse.ArgumentTypeError(str(error)) from None
+def _typed(read: Callable) -> Callable:
+    """What `read` makes of a word of the command; what it says of one that is wrong is the command's mistake."""
+
+    def typed(words: str):
+        try:
+            return read(words)
+        except ValueError as error:
+            raise argparse.ArgumentTypeError(str(error)) from None
+
+    return typed
 
 
 def word(name: str, help: str, metavar: str = "", **options) -> Argument:
@@ -101,7 +105,8 @@ def exit_code(answer: str) -> Argument:
 
 PLAN = word("plan", "a plan file")
 OUTPUT = option("-o", "--output", metavar="FILE", help="write to a file, which is replaced when all is there")
-ORIGIN = option("--origin", metavar="DATE", type=date, help="the date of minute 0: 2026-01-01, or with a time")
+ORIGIN = option("--origin", metavar="DATE", type=_typed(times.date), help="the date of minute 0: 2026-01-01, or with a time")
+MINIMUM = option("--minimum", metavar="MINUTES", type=_typed(texts.minutes), help="the minimum handover: minutes (30), or 2h")
 NAMES = option("--names", metavar="FILE", help="show names: the plan's own text, or lines of a position and a name")
 
 
@@ -183,7 +188,7 @@ def main(commands: Sequence[Command], words: Optional[Sequence[str]] = None) -> 
     signal.signal(signal.SIGTERM, lambda *_: sys.exit(128 + signal.SIGTERM))  # so that what stands beside is removed
     try:
         return _answer(commands, words)
-    except Refused as no:
+    except (Refused, Unfit) as no:
         files.say(str(no))
         return failures.REFUSED
     except Faulty as bad:

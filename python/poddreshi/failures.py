@@ -8,6 +8,10 @@ class Mistake(Exception):
     """The command is mistaken."""
 
 
+class Unfit(Exception):
+    """An input is not what the command takes, which no question of the library says."""
+
+
 class Failure(Exception):
     """An input or an output failed, or what the command needs is not there."""
 

@@ -1,16 +1,18 @@
 """The figures of the formats, each in one place."""
 import struct
 
-HEADER = struct.Struct("<HH")  # of a plan file: plan number, number of windows
+HEADER = struct.Struct("<HHI")  # of a plan file: plan number, number of windows, minimum handover in minutes
 HEADER_LENGTH = HEADER.size
+OLD_HEADER = struct.Struct("<HH")  # of before the minimum handover
+OLD_HEADER_LENGTH = OLD_HEADER.size
 WINDOW = struct.Struct("<II")  # offset, length
 WINDOW_LENGTH = WINDOW.size
 WINDOWS_LIMIT = 2048  # windows of a plan, at most
 PLAN_LIMIT = HEADER_LENGTH + WINDOW_LENGTH * WINDOWS_LIMIT  # bytes of the longest plan file
 PLAN_NUMBER_LIMIT = 65535
-LENGTH_LEAST = 1  # the shortest window
+MINIMUM_LEAST, MINIMUM_LIMIT = 1, 86_400  # the least and the greatest minimum handover; no window is shorter than its plan's
 END_LIMIT = 10_000_000  # the greatest end of a window
-NUMBER_LIMIT = 2**32 - 1  # the greatest offset or length that a plan file can hold
+NUMBER_LIMIT = 2**32 - 1  # the greatest offset, length or minimum that a plan file can hold
 
 TAG = struct.Struct("<5H")
 TAG_LENGTH = TAG.size

@@ -2,7 +2,7 @@
 from typing import List, NamedTuple
 
 from .names import Names
-from .plans import Window
+from .plans import Window, minimum_of
 from .times import Clock
 
 
@@ -12,6 +12,15 @@ class Given(NamedTuple):
     windows: List[Window]
     names: Names
     clock: Clock
+
+    @property
+    def minimum(self) -> int:
+        """The minimum handover, in minutes."""
+        return minimum_of(self.file)
+
+    @property
+    def minimum_words(self) -> str:
+        return f"minimum handover {self.clock.tell_length(self.minimum)}"
 
     def shown(self, position: int) -> list:
         """A row of a table: the window, its name, begin and end."""

@@ -34,7 +34,7 @@ def read(data: bytes, windows: List[Window], clock: Clock) -> Names:
 
 
 def _of_text(data: bytes, windows: List[Window], clock: Clock) -> Optional[Names]:
-    entries, faults = parse(data, clock)
+    entries, _, faults = parse(data, clock)
     entries.sort(key=lambda entry: entry.window.offset)
     if faults or [entry.window for entry in entries] != windows:
         return None

@@ -10,7 +10,6 @@ from .calls import Tree
 from .figures import END_LIMIT
 from .given import Given, shared_minutes
 from .svg import Drawing, width
-from .times import length_words
 from .wording import counted
 
 COLOURS = ("#0072b2", "#d55e00", "#009e73", "#cc79a7", "#8a6d00", "#56b4e9", "#5b3a9e", "#7f7f7f")
@@ -51,12 +50,13 @@ class Panel(NamedTuple):
 
 
 def title(scene: Scene) -> str:
+    plan = f"Plan {scene.plan.number}, {scene.plan.minimum_words}"
     if scene.ends is None:
-        return f"Plan {scene.plan.number}: {counted(scene.tree.windows, 'window')}, {counted(scene.tree.components, 'component')}"
+        return f"{plan}: {counted(scene.tree.windows, 'window')}, {counted(scene.tree.components, 'component')}"
     between = " and ".join(scene.plan.names.label(end) for end in scene.ends)
     if scene.chain is None:
-        return f"Plan {scene.plan.number}: no chain between {between}"
-    return f"Plan {scene.plan.number}: {counted(len(scene.chain) - 1, 'handover')} between {between}"
+        return f"{plan}: no chain between {between}"
+    return f"{plan}: {counted(len(scene.chain) - 1, 'handover')} between {between}"
 
 
 def description(scene: Scene) -> str:
@@ -155,11 +155,9 @@ def _axis(drawing: Drawing, scene: Scene, panel: Panel) -> None:
 
 def _cut(drawing: Drawing, scene: Scene, panel: Panel, stretch) -> None:
     """A stretch in which no window is: a white band, with two strokes on the axis."""
-    minutes = stretch.end - stretch.start
-    words = f"{minutes:,} minutes" if scene.plan.clock.origin is None else length_words(minutes)
     drawing.element(
         "rect",
-        title=f"no window for {words}",
+        title=f"no window for {scene.plan.clock.tell_length(stretch.end - stretch.start)}",
         x=stretch.left + 5,
         y=panel.top - 4,
         width=stretch.right - stretch.left - 10,

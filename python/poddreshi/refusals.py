@@ -1,15 +1,15 @@
 """Refusals in words. WORDS is the one table of them, by the number of the question; docs/FORMAT.md has the same."""
 from typing import Dict, NamedTuple, Optional, Sequence
 
-from . import figures
+from . import figures, oldplans
 from .tagforms import LONG, TagForm
-from .wording import counted, ordinal
+from .wording import bytes_of, counted, ordinal
 
 WORDS: Dict[int, str] = {
     1: "{the_plan} has {bytes}; a plan has at least {HEADER_LENGTH}",
     2: "{the_plan} is said to have {windows}; a plan has at most {WINDOWS_LIMIT:,}",
     3: "{the_plan} has {bytes}; with {windows} it has exactly {wanted:,}",
-    4: "window {position} of {the_plan} has length {length:,}; a length is at least {LENGTH_LEAST}",
+    4: "window {position} of {the_plan} has length {length:,}; a length is at least the minimum handover, {minimum:,}",
     5: "window {position} of {the_plan} ends at {end:,}; an end is at most {END_LIMIT:,}",
     6: "window {position} of {the_plan} begins at {offset:,}, earlier than the window before it, at {before:,}",
     7: "there is no window {at}: {holder}",
@@ -19,6 +19,7 @@ WORDS: Dict[int, str] = {
     11: "the first tag is of plan {plan} and the second of plan {other_plan}",
     12: "the two tags have component {component} and rank {rank} alike and differ elsewhere, so they are not both of one plan",
     13: "window {position} of {the_plan} ends at {end:,} and the one before it at {end_before:,}; short tags need ends that never fall",
+    14: "{the_plan} has a minimum handover of {minimum:,} minutes; a minimum is {MINIMUM_LEAST} to {MINIMUM_LIMIT:,}",
 }
 
 
@@ -47,7 +48,8 @@ class Refused(Exception):
 def refusal(number: int, input: int, position: int, asked: Asked) -> Refused:
     """A refusal with words that say what is wrong in the inputs of the call, where they can tell, and the question is known."""
     try:
-        words = WORDS[number].format_map(_facts(input, position, asked))
+        facts = _facts(input, position, asked)
+        words = WORDS[number].format_map(facts) + (f" ({oldplans.HINT})" if number in (1, 3, 14) and facts["old"] else "")
     except KeyError:
         words = ""
     return Refused(number, input, position, words)
@@ -67,11 +69,6 @@ def _facts(input: int, position: int, asked: Asked) -> dict:
     return facts
 
 
-def _bytes(data: bytes, limit: int) -> str:
-    """A length; of what is too long only that, since no more of it need have been read."""
-    return f"more than {counted(limit, 'byte')}" if len(data) > limit else counted(len(data), "byte")
-
-
 def _which(thing: str, inputs: Sequence[bytes], input: int) -> str:
     return f"the {thing}" if len(inputs) == 1 else f"the {ordinal(input)} {thing}"
 
@@ -84,9 +81,10 @@ def _holder(holder: str, count: int, thing: str) -> str:
 def _plan_facts(asked: Asked, input: int, position: int) -> dict:
     input = min(input, len(asked.plans) - 1)  # where the second of two positions is at fault there is one plan
     file = bytes(asked.plans[input])  # a view may lie in pieces
-    facts = {"the_plan": _which("plan", asked.plans, input), "bytes": _bytes(file, figures.PLAN_LIMIT)}
+    facts = {"the_plan": _which("plan", asked.plans, input), "bytes": bytes_of(file, figures.PLAN_LIMIT)}
+    facts["old"] = not oldplans.unlike(file)
     if len(file) >= figures.HEADER_LENGTH:
-        windows = figures.HEADER.unpack_from(file)[1]
+        _, windows, facts["minimum"] = figures.HEADER.unpack_from(file)
         facts["windows"], facts["holder"] = counted(windows, "window"), _holder("the plan", windows, "window")
         facts["wanted"] = figures.HEADER_LENGTH + figures.WINDOW_LENGTH * windows
     start = figures.HEADER_LENGTH + figures.WINDOW_LENGTH * position
@@ -111,7 +109,7 @@ def _tag_file_facts(tags: bytes, form: TagForm) -> dict:
 def _tag_facts(tags: Sequence[bytes], input: int, form: TagForm) -> dict:
     facts = {
         "the_tag": _which("tag", tags, input),
-        "bytes": _bytes(tags[input], LONG.length),  # of either form, so that one is seen to be given for the other
+        "bytes": bytes_of(tags[input], LONG.length),  # of either form, so that one is seen to be given for the other
         "wanted": f"a {form.thing} has {form.length}",
     }
     read = [form.layout.unpack(bytes(tag)) if len(tag) == form.length else None for tag in tags]

@@ -88,7 +88,7 @@ def summary(sheet: Sheet) -> str:
         longest = max(joined, key=lambda trip: trip.handovers)
         total = sum(trip.handovers.count for trip in joined)
         words.append(f"{total} handovers in all, at most {longest.handovers.count} ({longest.rig})")
-    return ", ".join(words)
+    return ", ".join([*words, sheet.plan.minimum_words])
 
 
 def _text(sheet: Sheet) -> str:
@@ -124,7 +124,8 @@ def _data(sheet: Sheet) -> dict:
         for trip in sheet.trips
     ]
     faults = [fault._asdict() for fault in sheet.faults]
-    return {"plan": sheet.plan.number, "rigs": rigs, "faults": faults, "summary": summary(sheet)}
+    plan = {"plan": sheet.plan.number, "minimum": sheet.plan.minimum}
+    return {**plan, "rigs": rigs, "faults": faults, "summary": summary(sheet)}
 
 
 def reply(sheet: Sheet, source: str) -> Reply:

@@ -1,18 +1,19 @@
 """A planner's text: a line for each window, or CSV with a header. Every fault of a text is found, by line.
 
     # offset length [name]; what follows a # is left out
+    minimum 30                          the plan's minimum handover, 1 where no line states it
     1440 480 North pier                 minutes
     2026-02-06 08:00 48h "Bay #3"       dates, with an origin; a name in quotes may hold a #
 """
 import csv
 import re
 import unicodedata
-from typing import Callable, Iterator, List, NamedTuple, Optional, Sequence, Tuple
+from typing import Callable, Iterator, List, NamedTuple, Optional, Sequence, Tuple, Union
 
 from . import calls, times
 from .failures import Mistake
-from .figures import END_LIMIT, LENGTH_LEAST, NUMBER_LIMIT, WINDOWS_LIMIT
-from .plans import Window, pack
+from .figures import END_LIMIT, MINIMUM_LEAST, NUMBER_LIMIT, WINDOWS_LIMIT
+from .plans import Window, minimum_of, pack
 from .refusals import Asked, Refused, refusal
 from .replies import aligned
 from .times import Clock
@@ -48,6 +49,13 @@ class Entry(NamedTuple):
     line: int
     window: Window
     name: str
+
+
+class Minimum(NamedTuple):
+    """The minimum handover that a text states, with its line; or that the command gives, with none."""
+
+    line: Optional[int]
+    minutes: int
 
 
 class Row(NamedTuple):
@@ -152,21 +160,36 @@ def _cells(line: str) -> List[str]:
     return [parts["offset"], parts["length"] or "", unquoted(parts["name"] or "")]
 
 
-def _entry(row: Row, clock: Clock) -> Entry:
+def _fitting(number: int, what: str) -> int:
+    if number > NUMBER_LIMIT:
+        raise ValueError(f"{what} of {number:,} does not fit a plan file, which holds up to {NUMBER_LIMIT:,}")
+    return number
+
+
+def minutes(word: str) -> int:
+    """A minimum handover: minutes, or a length with units."""
+    return _fitting(times.length(word), "a minimum handover")
+
+
+def _taken(row: Row, clock: Clock) -> Union[Entry, Minimum]:
     offset, length, name = row.cells
+    if offset.lower() == "minimum":
+        if not length or name:
+            raise ValueError("the line of the minimum handover has a length and nothing more: minimum 30, or minimum 2h")
+        return Minimum(row.line, minutes(length))
     if not offset or not length:
         hint = "; CSV begins with a line offset,length,name" if set(offset) & set(",;") else ""
         raise ValueError(f"a line has an offset and a length, and may have a name{hint}")
-    window = Window(clock.offset(offset), times.length(length))
-    for number, what in zip(window, ("an offset", "a length")):
-        if number > NUMBER_LIMIT:
-            raise ValueError(f"{what} of {number:,} does not fit a plan file, which holds up to {NUMBER_LIMIT:,}")
+    window = Window(_fitting(clock.offset(offset), "an offset"), _fitting(times.length(length), "a length"))
     return Entry(row.line, window, clean(name))
 
 
-def parse(data: bytes, clock: Clock) -> Tuple[List[Entry], List[Fault]]:
-    """The windows of a text, in its order, and the lines that are none."""
-    return read_rows(data, ("offset", "length", "name"), 2, _cells, lambda row: _entry(row, clock))
+def parse(data: bytes, clock: Clock) -> Tuple[List[Entry], Optional[Minimum], List[Fault]]:
+    """The windows of a text, in its order, the minimum handover where it states one, and the lines that are neither."""
+    taken, faults = read_rows(data, ("offset", "length", "name"), 2, _cells, lambda row: _taken(row, clock))
+    first, *more = [each for each in taken if isinstance(each, Minimum)] or [None]
+    faults += [Fault(each.line, f"the minimum handover is stated on line {first.line}") for each in more]
+    return [each for each in taken if isinstance(each, Entry)], first, faults
 
 
 def _refusals(entries: List[Entry], file: bytes) -> Iterator[Fault]:
@@ -174,22 +197,37 @@ def _refusals(entries: List[Entry], file: bytes) -> Iterator[Fault]:
     for position, entry in enumerate(entries):
         pair = [each.window.offset for each in entries[max(position - 1, 0) : position + 1]]
         # Two windows of which nothing can be refused but that one begins before the other.
-        in_order = [Window(min(offset - min(pair), END_LIMIT - LENGTH_LEAST), LENGTH_LEAST) for offset in pair]
-        for windows in ([entry.window], in_order):
+        in_order = [Window(min(offset - min(pair), END_LIMIT - MINIMUM_LEAST), MINIMUM_LEAST) for offset in pair]
+        for asked in (pack(0, [entry.window], minimum_of(file)), pack(0, in_order)):
             try:
-                calls.validate(pack(0, windows))
+                calls.validate(asked)
             except Refused as no:
                 yield Fault(entry.line, str(refusal(no.number, 0, position, Asked(plans=[file]))))
 
 
-def make(number: int, data: bytes, clock: Clock, sort: bool = False, empty: bool = False) -> Tuple[bytes, List[Entry]]:
-    """The plan file of a text, and its entries by position. All that is wrong is raised at once, as Faulty."""
-    entries, faults = parse(data, clock)
+def _ask_minimum(minimum: Minimum, faults: List[Fault]) -> None:
+    """Of a minimum that is refused no window can be asked."""
+    try:
+        calls.validate(pack(0, [], minimum.minutes))
+    except Refused as no:
+        if minimum.line is None:
+            raise
+        raise Faulty([*faults, Fault(minimum.line, str(no))]) from None
+
+
+def make(
+    number: int, data: bytes, clock: Clock, sort: bool = False, empty: bool = False, minimum: Optional[int] = None
+) -> Tuple[bytes, List[Entry]]:
+    """The plan file of a text, and its entries by position. All that is wrong is raised at once, as Faulty. A minimum that is
+    given takes the place of the text's."""
+    entries, stated, faults = parse(data, clock)
     if not entries and not faults and not empty:
         raise Faulty([Fault(1, "the text has no window; --empty makes a plan of none")])
     if sort:
         entries.sort(key=lambda entry: entry.window.offset)
-    file = pack(number, [entry.window for entry in entries])
+    used = Minimum(None, minimum) if minimum is not None else stated or Minimum(None, MINIMUM_LEAST)
+    _ask_minimum(used, faults)
+    file = pack(number, [entry.window for entry in entries], used.minutes)
     faults += _refusals(entries, file)
     try:
         calls.validate(file)
@@ -201,8 +239,8 @@ def make(number: int, data: bytes, clock: Clock, sort: bool = False, empty: bool
     return file, entries
 
 
-def write(windows: List[Window], names: List[str], clock: Clock) -> str:
+def write(windows: List[Window], names: List[str], minimum: int, clock: Clock) -> str:
     """The lines of a text, aligned."""
     each = zip(windows, names)
     rows = [(clock.show(window.offset), clock.show_length(window.length), quoted(name)) for window, name in each]
-    return aligned(rows, right=(0, 1), between=" ")
+    return f"minimum {clock.show_length(minimum)}\n" + aligned(rows, right=(0, 1), between=" ")

@@ -4,7 +4,7 @@ from datetime import datetime, timedelta
 from typing import Optional
 
 from .failures import Mistake
-from .wording import cited
+from .wording import cited, counted
 
 MINUTE = timedelta(minutes=1)
 _DATE = re.compile(r"(\d{4})-(\d\d)-(\d\d)(?:(?:[ \t]+|T)(\d\d?):(\d\d))?", re.ASCII)
@@ -70,6 +70,10 @@ class Clock:
 
     def show_length(self, minutes: int) -> str:
         return str(minutes) if self.origin is None else length_words(minutes)
+
+    def tell_length(self, minutes: int) -> str:
+        """The same with its unit."""
+        return counted(minutes, "minute") if self.origin is None else length_words(minutes)
 
 
 def stamp(moment: datetime) -> str:

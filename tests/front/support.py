@@ -3,6 +3,7 @@ import ctypes
 import os
 import random
 import shutil
+import struct
 import subprocess
 import sys
 import tempfile
@@ -32,6 +33,7 @@ SHORT_TAGS = bytes.fromhex(
     "0e00000000000500" "0e00000001000200" "0e00000001000400" "0e00000002000100"
     "0e00000002000300" "0e00000003000000" "0e00010000000100" "0e00010001000000"
 )
+BOLTING = (EXAMPLES / "bolting.plan").read_bytes()  # plan 21, with a minimum of 30
 LISTING_12 = "12 7 2\n0 0 0 0 5 4\n1 0 0 1 0 3\n2 0 0 1 3 2\n3 0 0 1 4 4\n4 2 0 2 2 1\n5 4 0 3 1 1\n6 6 1 0 0 0\n"
 
 
@@ -39,8 +41,13 @@ def built() -> Path:
     return places.built(ROOT)
 
 
-def plan(*windows, number=12) -> bytes:
-    return poddreshi.pack(number, windows)
+def plan(*windows, number=12, minimum=1) -> bytes:
+    return poddreshi.pack(number, windows, minimum)
+
+
+def old_plan(*windows, number=12) -> bytes:
+    """A plan file of before the minimum handover."""
+    return struct.pack(f"<HH{2 * len(windows)}I", number, len(windows), *(each for window in windows for each in window))
 
 
 def random_windows(generator: random.Random, count: int, span: int = 5000, longest: int = 400) -> list:

@@ -49,10 +49,10 @@ class Commands(Case):
     def test_list(self):
         self.assertEqual(self.text("list", self.plan), LISTING_12)
         self.assertEqual(self.text("list", "-", stdin=PLAN_12), LISTING_12)
-        self.assertEqual(self.text("list", "-", stdin=b"\x0c\0\0\0"), "12 0 0\n")
+        self.assertEqual(self.text("list", "-", stdin=b"\x0c\0\0\0\x01\0\0\0"), "12 0 0\n")
         self.assertEqual(self.rows("list", self.plan)[-1], ["6", "6", "1", "0", "0", "0"])
         data = self.data("list", self.plan)
-        self.assertEqual((data["plan"], data["windows"], data["components"]), (12, 7, 2))
+        self.assertEqual((data["plan"], data["windows"], data["components"], data["minimum"]), (12, 7, 2, 1))
         self.assertEqual(data["tree"][4], {"position": 4, "parent": 2, "component": 0, "depth": 2, "rank": 2, "last_rank": 1})
 
     def test_list_of_the_largest_plan(self):
@@ -64,14 +64,19 @@ class Commands(Case):
     def test_list_refuses_as_paper_01_has_it(self):
         for file, line in {
             b"\x0c\0\0": "refused 1 0",
-            b"\x0c\0\x01\x08": "refused 2 0",
+            b"\x0c\0\0\0\x01\0\0": "refused 1 0",
+            b"\x0c\0\x01\x08\0\0\0\0": "refused 2 0",
+            plan((0, 10), minimum=0): "refused 14 0",
+            plan((0, 10), minimum=86_401)[:-1]: "refused 14 0",
+            plan((0, 10))[:-1]: "refused 3 0",
             plan((5, 5), (4, 0)): "refused 4 1",
+            plan((5, 5), (4, 4), minimum=5): "refused 4 1",
             plan((2**32 - 1, 6)): "refused 5 0",
             plan((5, 5), (4, 5)): "refused 6 1",
         }.items():
             done = self.run_front("list", "-", stdin=file)
             self.assertEqual((done.stdout.decode(), done.stderr, done.returncode), (line + "\n", b"", 1))
-        words = "refused by question 1: the plan has 3 bytes; a plan has at least 4"
+        words = "refused by question 1: the plan has 3 bytes; a plan has at least 8"
         self.says(1, words, "list", "-", "--json", stdin=b"\0\0\0")
 
     def test_tags_and_tag(self):
@@ -147,7 +152,7 @@ class Commands(Case):
         self.fails(2, "chain", self.plan, 1, "Quay", about="names come with --names")
         year = self.answers("plan", 40, EXAMPLES / "year.txt", "--origin", "2026-01-01")
         done = self.run_front("chain", "-", 2, 7, "--names", EXAMPLES / "year.txt", stdin=year)
-        self.assertEqual((done.returncode, done.stderr.count(b"which takes --origin where it has dates")), (1, 60))
+        self.assertEqual((done.returncode, done.stderr.count(b"which takes --origin where it has dates")), (1, 61))
         bad = self.file("bad", "9 nowhere\n1 here\n1 there\nnobody\n")
         done = self.run_front("chain", self.plan, 1, 5, "--names", bad)
         lines = [line.split(b": ")[0][-6:] for line in done.stderr.splitlines()]
@@ -173,10 +178,11 @@ class Commands(Case):
         self.assertEqual(
             self.text("same", self.plan, EXAMPLES / "plan-31.plan"),
             "different: the first plan has 7 windows and the second 48 windows; "
-            "windows 0 and 3 overlap in the first plan and not in the second\n",
+            "windows 0 and 3 overlap in the first plan and not in the second; "
+            "the minimum handover of the first plan is 1 minute and that of the second 15 minutes\n",
         )
         told = "different: the first plan has 7 windows and the second 8 windows\n"
-        self.assertEqual(self.text("same", self.plan, "-", stdin=b"\x0c\0\x08" + PLAN_12[3:] + plan((99, 1))[4:]), told)
+        self.assertEqual(self.text("same", self.plan, "-", stdin=b"\x0c\0\x08" + PLAN_12[3:] + plan((99, 1))[8:]), told)
         apart, joined = plan((0, 1), (1, 1), (2, 1)), self.file("joined.plan", plan((0, 9), (1, 1), (2, 1)))
         told = "different: windows 0 and 1 overlap in the second plan and not in the first\n"
         self.assertEqual(self.text("same", "-", joined, stdin=apart), told)
@@ -219,6 +225,12 @@ class Commands(Case):
             ("text", self.plan, "--origin", "yesterday"),
             ("text", self.plan, "--origin", "2026-02-30"),
             ("text", self.plan, "--origin", "9999-12-31 23:59"),
+            ("plan", 1, "-", "--minimum", "soon"),
+            ("plan", 1, "-", "--minimum", ""),
+            ("plan", 1, "-", "--minimum", -5),
+            ("plan", 1, "-", "--minimum", 2**32),
+            ("renew", "-", "--minimum", "1.5"),
+            ("renew",),
             ("chain", "-", 0, 1, "--names", "-"),
         ):
             error = self.fails(2, *words, about="poddreshi: ")
@@ -237,6 +249,7 @@ class Commands(Case):
             altered = altered[: generator.choice([len(altered), generator.randrange(len(altered))])]
             for words in (
                 *(("tags", "-"), ("chain", "-", 0, 1), ("draw", "-"), ("text", "-", "--json"), ("same", self.plan, "-")),
+                *(("renew", "-"), ("renew", "-", "--minimum", 3)),
                 *(("count", "-", 0, "--all"), ("explain", "-"), ("plan", 7, "-", "--sort"), ("chains", self.plan, "-", "--html")),
                 *(("chain", self.plan, 0, 1, "--names", "-"), ("chain", "-", 0, 1, "--names", names), ("list", "-", "--csv")),
                 *(("tags", "-", "--short"), ("count", "-", 0, "--all", "--short"), ("explain", "-", "--short")),

@@ -74,9 +74,12 @@ class Answers(unittest.TestCase):
     def test_refusals(self):
         asked = {
             (1, 1, 0): (poddreshi.same, PLAN_12, b""),
-            (2, 0, 0): (poddreshi.validate, b"\x0c\0\x01\x08"),
+            (2, 0, 0): (poddreshi.validate, b"\x0c\0\x01\x08\0\0\0\0"),
             (3, 0, 0): (poddreshi.build, PLAN_12 + b"\0"),
+            (14, 1, 0): (poddreshi.same, PLAN_12, plan(minimum=0)),
+            (14, 0, 0): (poddreshi.build, plan((0, 99_999), minimum=86_401) + b"\0"),
             (4, 0, 1): (poddreshi.tags, plan((5, 5), (4, 0))),
+            (4, 1, 0): (poddreshi.same, PLAN_12, plan((0, 10), (5, 10), minimum=11)),
             (5, 0, 0): (poddreshi.validate, plan((2**32 - 1, 6))),
             (6, 0, 1): (poddreshi.validate, plan((5, 5), (4, 5))),
             (7, 0, 0): (poddreshi.lookup, TAGS_12, 7),
@@ -161,7 +164,7 @@ class Interface(unittest.TestCase):
         before = os.getcwd()
         os.chdir(ROOT)
         self.addCleanup(os.chdir, before)
-        self.assertEqual(doctest.testmod(poddreshi), (0, 7))
+        self.assertEqual(doctest.testmod(poddreshi), (0, 9))
 
 
 if __name__ == "__main__":

@@ -100,6 +100,8 @@ class OutputFile(Case):
     def test_a_refusal_leaves_the_old_file(self):
         self.fails(1, "tags", "-", "-o", "old", stdin=b"\0\0\0")
         self.fails(1, "plan", 1, "-", "-o", "old", stdin=b"5 0\n")
+        self.fails(1, "plan", 1, "-", "--minimum", 0, "-o", "old", stdin=b"5 1\n")
+        self.fails(1, "plan", 1, "-", "--minimum", 2, "-o", "old", stdin=b"5 1\n")
         self.fails(1, "draw", "-", 0, 9, "-o", "old", stdin=PLAN_12)
         done = self.run_front("list", "-", "-o", "old", stdin=b"\0\0\0")
         self.assertEqual((done.returncode, done.stdout, done.stderr), (1, b"refused 1 0\n", b""))
@@ -161,7 +163,7 @@ class Inputs(Case):
     def test_no_more_is_read_than_the_limit_and_one(self):
         with open(self.file("long", bytes(100_000)), "rb", buffering=0) as long:
             self.run_front("chain", "-", 0, 1, stdin_file=long)
-            self.assertEqual(os.lseek(long.fileno(), 0, os.SEEK_CUR), 16389)
+            self.assertEqual(os.lseek(long.fileno(), 0, os.SEEK_CUR), 16393)
 
     def test_an_interrupt_is_quiet(self):
         front = subprocess.Popen(

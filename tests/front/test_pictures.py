@@ -62,13 +62,13 @@ class Pictures(Case):
 
     def test_plan_12(self):
         sheet = self.drawn(PLAN_12)
-        self.assertEqual(sheet.find(SVG + "title").text, "Plan 12: 7 windows, 2 components")
+        self.assertEqual(sheet.find(SVG + "title").text, "Plan 12, minimum handover 1 minute: 7 windows, 2 components")
         self.assertEqual(self.shown(sheet), list(range(7)))
         self.assertIn("minutes", [text.text for text in sheet.iter(SVG + "text")])
 
     def test_a_chain_and_its_component(self):
         sheet = self.drawn(PLAN_12, "3", "5")
-        self.assertEqual(sheet.find(SVG + "title").text, "Plan 12: 3 handovers between window 3 and window 5")
+        self.assertEqual(sheet.find(SVG + "title").text, "Plan 12, minimum handover 1 minute: 3 handovers between window 3 and window 5")
         self.assertEqual(self.shown(sheet), [0, 1, 2, 3, 4, 5])
         self.assertEqual([bar.get("stroke") is not None for bar in self.bars(sheet)], [False, False, True, True, True, True])
         self.assertEqual(len(list(sheet.iter(SVG + "circle"))), 6)
@@ -77,7 +77,7 @@ class Pictures(Case):
 
     def test_no_chain(self):
         sheet = self.drawn(PLAN_12, "5", "6")
-        self.assertEqual(sheet.find(SVG + "title").text, "Plan 12: no chain between window 5 and window 6")
+        self.assertEqual(sheet.find(SVG + "title").text, "Plan 12, minimum handover 1 minute: no chain between window 5 and window 6")
         self.assertEqual(list(sheet.iter(SVG + "circle")), [])
 
     def test_from_and_to(self):

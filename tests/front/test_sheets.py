@@ -41,7 +41,7 @@ class Chains(Case):
         self.assertIn("line 6: a line has a rig's name, its present window and the window where it is wanted\n", text)
         self.assertIn("Rig 3: from window 5 (Quay) to window 5 (Quay): 0 handovers\n", text)
         self.assertIn("  5  Quay    2026-02-06 08:17 to 2026-02-06 08:18\n", text)
-        last = "6 rigs: 3 with a chain, 1 with no chain, 2 lines not read, 6 handovers in all, at most 3 (Rig 1)"
+        last = "6 rigs: 3 with a chain, 1 with no chain, 2 lines not read, 6 handovers in all, at most 3 (Rig 1), minimum handover 1m"
         self.assertEqual(text.splitlines()[-1], last)
 
     def test_each_chain_in_the_order_of_travel(self):

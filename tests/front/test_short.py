@@ -84,7 +84,8 @@ class Calls(unittest.TestCase):
         high = bytes.fromhex("0e00000000080300")
         asked = {
             (1, 0, 0): (poddreshi.short_tags, b""),
-            (2, 0, 0): (poddreshi.short_tags, b"\x0c\0\x01\x08"),
+            (2, 0, 0): (poddreshi.short_tags, b"\x0c\0\x01\x08\x01\0\0\0"),
+            (14, 0, 0): (poddreshi.short_tags, plan((0, 9), (1, 1), minimum=0)),
             (3, 0, 0): (poddreshi.short_tags, EVEN + b"\0"),
             (5, 0, 0): (poddreshi.short_tags, plan((2**32 - 1, 6))),
             (4, 0, 2): (poddreshi.short_tags, plan((0, 9), (1, 1), (2, 0))),  # before 13, of which window 1 is at fault

@@ -68,7 +68,7 @@ class Faults(unittest.TestCase):
         text = b"5 5\n4 0\n9\nx 1\n6 x\n\xff 1\n3 1\n10000000 1\n"
         text += b"2026-01-01 08:00 1\n4294967296 1\n7 4294967296\n8 1 a\x07\n9 1\n"
         self.assertEqual(faults(text), [
-            "line 2: refused by question 4: window 1 of the plan has length 0; a length is at least 1",
+            "line 2: refused by question 4: window 1 of the plan has length 0; a length is at least the minimum handover, 1",
             "line 2: refused by question 6: window 1 of the plan begins at 4, earlier than the window before it, at 5",
             "line 3: a line has an offset and a length, and may have a name",
             'line 4: "x" is no offset; write minutes (1440) or a date (2026-02-06 08:00)',
@@ -131,14 +131,16 @@ class RoundTrip(Case):
             windows = random_windows(generator, count, span, generator.choice([2, 400, 900_000]))
             windows = [poddreshi.Window(*window) for window in windows]
             clock, named = generator.choice(origins), [generator.choice(shown) for _ in windows]
-            text = texts.write(windows, named, clock)
-            self.assertEqual(made(text, clock, empty=True), ([tuple(window) for window in windows], named), text)
+            minimum = generator.randint(1, min([86_400, *(window.length for window in windows)]))
+            file, entries = texts.make(12, texts.write(windows, named, minimum, clock).encode(), clock, empty=True)
+            self.assertEqual((file, [entry.name for entry in entries]), (plan(*windows, minimum=minimum), named))
 
     def test_by_the_command(self):
         generator = random.Random(31)
         for count in (0, 1, 30, 2048):
-            file = plan(*random_windows(generator, count, 9_000_000), number=generator.randrange(65536))
-            number = int.from_bytes(file[:2], "little")
+            windows, number = random_windows(generator, count, 9_000_000), generator.randrange(65536)
+            shortest = min((length for _, length in windows), default=86_400)
+            file = plan(*windows, number=number, minimum=generator.choice([1, shortest]))
             for form in ((), ("--csv",)):
                 for origin in ((), ("--origin", "2026-02-06 08:00")):
                     text = self.answers("text", "-", *form, *origin, stdin=file)
@@ -156,7 +158,8 @@ class RoundTrip(Case):
         self.says(
             1,
             'standard input, line 1: "x" is no offset; write minutes (1440) or a date (2026-02-06 08:00)\n'
-            "standard input, line 2: refused by question 4: window 0 of the plan has length 0; a length is at least 1",
+            "standard input, line 2: refused by question 4: window 0 of the plan has length 0; "
+            "a length is at least the minimum handover, 1",
             *("plan", 1, "-"),
             stdin=b"x 1\n5 0\n",
         )

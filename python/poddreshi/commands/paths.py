@@ -5,6 +5,7 @@ from .. import calls, files
 from ..commandline import NAMES, ORIGIN, PLAN, command, exit_code, forms, given, number, once, word
 from ..figures import PLAN_LIMIT
 from ..given import Given
+from ..plans import minimum_of
 from ..replies import Reply, aligned
 from ..wording import counted, ordinal
 
@@ -25,6 +26,7 @@ def _windows_text(plan: Given, positions: Sequence[int], bare: str) -> str:
     [PLAN, word("first", _WINDOW), word("second", _WINDOW), NAMES, ORIGIN, exit_code("no chain"), forms()],
     [
         "poddreshi chain examples/plan-12.plan 1 5",
+        "poddreshi chain examples/bolting.plan 0 2",
         "poddreshi chain year.plan 2 7 --names examples/year.txt --origin 2026-01-01",
     ],
     "Of the shortest chains it is the one with the earliest window at each step. With --names or --origin there is a line "
@@ -50,7 +52,8 @@ def _chain(args) -> Reply:
     "neighbours",
     "the windows that overlap one window",
     [PLAN, word("position", _WINDOW), NAMES, ORIGIN, forms()],
-    ["poddreshi neighbours examples/plan-12.plan 2"],
+    ["poddreshi neighbours examples/plan-12.plan 2", "poddreshi neighbours examples/bolting.plan 0"],
+    "Two windows overlap when they share at least the plan's minimum handover.",
 )
 def _neighbours(args) -> Reply:
     plan = given(args)
@@ -89,7 +92,8 @@ def _difference(plans: Sequence[bytes], windows: int) -> Optional[Tuple[int, int
     "whether the same pairs of windows overlap in two plans",
     [word("first", "a plan file", "PLAN"), word("second", "another", "PLAN"), exit_code("different"), forms()],
     ["poddreshi same examples/plan-12.plan examples/plan-31.plan --exit-code"],
-    "Where they differ, the first position and the first window that overlaps it in one of the plans alone are named.",
+    "Where they differ, the first position and the first window that overlaps it in one of the plans alone are named, and the "
+    "two minimum handovers where these are unequal.",
 )
 def _same(args) -> Reply:
     once(args.first, args.second)
@@ -97,8 +101,8 @@ def _same(args) -> Reply:
     header = ("answer", "difference", "position", "other")
     if calls.same(*plans).same:
         return Reply("same", header, [("same", "", "", "")], {"same": True})
-    counts = [calls.validate(file).windows for file in plans]
-    data, words, pair = {"same": False, "windows": counts}, [], ["", ""]
+    counts, minimums = [calls.validate(file).windows for file in plans], [minimum_of(file) for file in plans]
+    data, words, pair = {"same": False, "windows": counts, "minimums": minimums}, [], ["", ""]
     if counts[0] != counts[1]:
         words.append(f"the first plan has {counted(counts[0], 'window')} and the second {counted(counts[1], 'window')}")
     found = _difference(plans, min(counts))
@@ -107,6 +111,9 @@ def _same(args) -> Reply:
         there, elsewhere = ordinal(holder), ordinal(1 - holder)
         words.append(f"windows {pair[0]} and {pair[1]} overlap in the {there} plan and not in the {elsewhere}")
         data.update(position=pair[0], other=pair[1], overlap_in=there)
+    if minimums[0] != minimums[1]:
+        first, second = (counted(minimum, "minute") for minimum in minimums)
+        words.append(f"the minimum handover of the first plan is {first} and that of the second {second}")
     row = ("different", "; ".join(words), *pair)
     return Reply(": ".join(row[:2]), header, [row], data, otherwise=True)
 

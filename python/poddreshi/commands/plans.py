@@ -1,10 +1,11 @@
-"""list, text, plan: a plan file shown, written as text, and made of text."""
+"""list, text, plan, renew: a plan file shown, written as text, made of text, and made of an old one."""
 import subprocess
 
-from .. import files, places, texts
-from ..commandline import NAMES, ORIGIN, OUTPUT, PLAN, command, forms, given, number, option, reading, word
-from ..failures import Failure
-from ..figures import PLAN_LIMIT, PLAN_NUMBER_LIMIT, TEXT_LIMIT
+from .. import calls, files, oldplans, places, texts
+from ..commandline import MINIMUM, NAMES, ORIGIN, OUTPUT, PLAN, command, forms, given, number, option, reading, word
+from ..failures import Failure, Unfit
+from ..figures import MINIMUM_LEAST, PLAN_LIMIT, PLAN_NUMBER_LIMIT, TEXT_LIMIT
+from ..plans import minimum_of
 from ..refusals import Asked, refusal
 from ..replies import Reply
 from ..times import Clock
@@ -41,9 +42,9 @@ def _list(args) -> Reply:
         if args.form != "text":
             raise refusal(first[0], 0, first[1], Asked(plans=[file]))
         args.output = None  # the line that paper 01 fixes is for standard output, and a file stays as it was
-        return Reply(text, refused=True)
-    data = dict(zip(("plan", "windows", "components"), first), tree=[dict(zip(_COLUMNS, row)) for row in rows])
-    return Reply(text, _COLUMNS, rows, data)
+        return Reply(text, refused=True, faults=[] if oldplans.unlike(file) else [f"({oldplans.HINT})"])
+    data = dict(zip(("plan", "windows", "components"), first), minimum=minimum_of(file))
+    return Reply(text, _COLUMNS, rows, {**data, "tree": [dict(zip(_COLUMNS, row)) for row in rows]})
 
 
 @command(
@@ -51,17 +52,21 @@ def _list(args) -> Reply:
     "the text of a plan, from which `plan` makes it again",
     [PLAN, NAMES, ORIGIN, forms()],
     ["poddreshi text examples/plan-12.plan", "poddreshi text year.plan --origin 2026-01-01 --names examples/year.txt --csv"],
+    "A line states the minimum handover, `minimum 30`, and in CSV the first row does where it is more than 1. The plan number "
+    "is given to `plan`.",
 )
 def _text(args) -> Reply:
     plan = given(args)
     unit = "offset and length in minutes" if plan.clock.origin is None else "begin and length"
     heading = f"# plan {plan.number}, {counted(len(plan.windows), 'window')}: {unit}\n"
-    rows = [
-        (plan.clock.show(window.offset), plan.clock.show_length(window.length), name)
-        for window, name in zip(plan.windows, plan.names)
-    ]
-    data = {"plan": plan.number, "windows": [plan.data(position) for position in range(len(plan.windows))]}
-    text = heading + texts.write(plan.windows, plan.names, plan.clock)
+    rows = []
+    if plan.minimum != MINIMUM_LEAST:  # what `plan` takes where no row states it, so that other programs find windows alone
+        rows.append(("minimum", plan.clock.show_length(plan.minimum), ""))
+    for window, name in zip(plan.windows, plan.names):
+        rows.append((plan.clock.show(window.offset), plan.clock.show_length(window.length), name))
+    windows = [plan.data(position) for position in range(len(plan.windows))]
+    data = {"plan": plan.number, "minimum": plan.minimum, "windows": windows}
+    text = heading + texts.write(plan.windows, plan.names, plan.minimum, plan.clock)
     return Reply(text, ("offset", "length", "name"), rows, data)
 
 
@@ -73,23 +78,47 @@ def _text(args) -> Reply:
         word("text", "a planner's text"),
         option("--sort", action="store_true", help="put the windows in order of their offsets"),
         option("--empty", action="store_true", help="accept a text with no window"),
-        *(ORIGIN, OUTPUT),
+        *(MINIMUM, ORIGIN, OUTPUT),
     ],
     [
         "poddreshi plan 31 examples/plan-31.txt -o plan-31.plan",
+        "poddreshi plan 21 examples/bolting.txt --minimum 45 -o longer.plan",
         "poddreshi plan 40 examples/year.txt --origin 2026-01-01 --sort -o year.plan",
     ],
     "A line has an offset and a length in minutes and may have a name: `1440 480 North pier`. With --origin an offset may "
     "be a date and a length have units: `2026-02-06 08:00 48h North pier`. What follows a # is left out, and a name in "
-    "double quotes may hold one. A text whose first line is `offset,length,name` is CSV (also with ; or tabs). Every line "
+    "double quotes may hold one. A text whose first line is `offset,length,name` is CSV (also with ; or tabs). Two windows "
+    "overlap when they share the minimum handover, and none is shorter. A line `minimum 30` states it, or a row of CSV with "
+    "`minimum` for its offset; --minimum goes before what the text states, and without either it is 1 minute. Every line "
     "that is wrong is named, and then nothing is written.",
 )
 def _plan(args) -> Reply:
     plan_number = number(args.number, PLAN_NUMBER_LIMIT, "a plan number")
     with reading(args.text):
         data = files.read_whole(args.text, TEXT_LIMIT, "planner's text")
-        file, _ = texts.make(plan_number, data, Clock(args.origin), args.sort, args.empty)
+        file, _ = texts.make(plan_number, data, Clock(args.origin), args.sort, args.empty, args.minimum)
     return Reply(content=file)
 
 
-COMMANDS = [_list, _text, _plan]
+@command(
+    "renew",
+    "a plan file with a minimum handover from an old one, which has none",
+    [word("old", "a plan file of before version 2, whose header has 4 bytes"), MINIMUM, OUTPUT],
+    [
+        "poddreshi renew examples/plan-31.old -o plan-31.plan",
+        "poddreshi renew examples/plan-31.old --minimum 15 -o plan-31.plan",
+    ],
+    "The minimum handover is 1 minute where --minimum is left out: then the same windows overlap as before. Old files are known "
+    "by their length. A plan that is refused is not written.",
+)
+def _renew(args) -> Reply:
+    old = files.read(args.old, PLAN_LIMIT)
+    try:
+        file = oldplans.renewed(old, MINIMUM_LEAST if args.minimum is None else args.minimum)
+    except ValueError as error:
+        raise Unfit(f"{files.called(args.old)}: {error}") from None
+    calls.validate(file)
+    return Reply(content=file)
+
+
+COMMANDS = [_list, _text, _plan, _renew]
