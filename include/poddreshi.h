@@ -5,7 +5,7 @@
  * 38 kB of stack, the calls that take no plan file some bytes, and all others at most 17 kB.
  *
  * THE ANSWER of every call is one number of 64 bits: four fields of 16 bits, the lowest first. The first field is the kind.
- * A refusal has kind PODDRESHI_REFUSED in every call, and then the question's number (1 to 13), the input at fault (0 the
+ * A refusal has kind PODDRESHI_REFUSED in every call, and then the question's number (1 to 14), the input at fault (0 the
  * first, 1 the second) and the position of the window being read, or 0. What the other kinds hold is said at each call;
  * fields that are not named are 0. The functions at the end take an answer apart.
  *
@@ -17,25 +17,31 @@
  *
  * A REFUSAL ALTERS NOTHING that is lent. Where a call writes, what lies past the written entries stays.
  *
+ * A PLAN FILE begins with 8 bytes, each number with its lowest byte first: the plan number (2), the number of windows n (2) and the
+ * minimum handover in minutes (4). Two different windows OVERLAP when they share at least the plan's minimum of minutes, and parents,
+ * lasts, chains, neighbours, sameness and tags all go by that. A file from before version 2.0.0, which has no minimum, is always refused.
+ *
  * SHORT TAGS are for even plans: those in which no window ends before the one ahead of it in the file (equal ends pass). Two short
  * tags of such a plan give the least number of handovers, as its long ones do; of another plan they may not, and none are written.
  * No byte tells a file of short tags from one of long ones: where its length is a multiple of 40, the caller must know which it is.
  *
- * THE QUESTIONS, in the order in which they are asked, down the left and then down the right; a call asks those named with it.
- *    1  Has the file at least 4 bytes?                    7  Is each position below the number of windows?
+ * THE QUESTIONS, in the order in which they are asked, down the left and then down the right; a call asks those named with it. THE
+ * PLAN'S QUESTIONS are 1, 2, 14 and 3, and then 4, 5 and 6 window after window.
+ *    1  Has the file at least 8 bytes?                    7  Is each position below the number of windows?
  *    2  Is n at most 2,048?                               8  Does each table hold what is to be written?
- *    3  Has the file exactly 4 + 8 n bytes?               9  Has the tag 10 bytes, the tag file a multiple of 10?
- *    4  Is the length at least 1?                            (A short tag 8, a file of them a multiple of 8.)
- *    5  Is offset + length at most 10,000,000?           10  Is each field after the plan number at most 2,047?
- *    6  Is the offset at least that of the one before?   11  Have both tags one plan number?
- *   13  Does no window end before the one ahead of it?   12  Do tags of equal component and rank agree in all fields?
+ *   14  Is the minimum handover 1 to 86,400?              9  Has the tag 10 bytes, the tag file a multiple of 10?
+ *    3  Has the file exactly 8 + 8 n bytes?                  (A short tag 8, a file of them a multiple of 8.)
+ *    4  Is the length at least the minimum handover?     10  Is each field after the plan number at most 2,047?
+ *    5  Is offset + length at most 10,000,000?           11  Have both tags one plan number?
+ *    6  Is the offset at least that of the one before?   12  Do tags of equal component and rank agree in all fields?
+ *   13  Does no window end before the one ahead of it?
  *       (Asked where short tags are wanted.)
  */
 #ifndef PODDRESHI_H
 #define PODDRESHI_H
 
 /* The version of the library that this header belongs to. */
-#define PODDRESHI_VERSION "1.1.0"
+#define PODDRESHI_VERSION "2.0.0"
 
 #include <stddef.h>
 #include <stdint.h>
@@ -65,14 +71,14 @@ enum {
     PODDRESHI_SHORT_TAG_LENGTH = 8,  /* bytes of a short tag */
     PODDRESHI_FIELD_LIMIT = 2047,    /* the greatest number in a tag's field after the plan number */
     PODDRESHI_WINDOWS_LIMIT = 2048,  /* the greatest number of windows of a plan */
-    PODDRESHI_FILE_LIMIT = 16388     /* bytes of the longest plan file */
+    PODDRESHI_FILE_LIMIT = 16392     /* bytes of the longest plan file */
 };
 
-/* Is the file that of an accepted plan? Questions 1 to 6.
+/* Is the file that of an accepted plan? The plan's questions.
  * ACCEPTED: plan number, number of windows. */
 uint64_t poddreshi_validate(const uint8_t *file, size_t file_length);
 
-/* The five tables and the tag file of a plan. Questions 1 to 6 and 8: each table has room for n entries, the tag file for
+/* The five tables and the tag file of a plan. The plan's questions and 8: each table has room for n entries, the tag file for
  * 10 n bytes.
  * BUILT: plan number, number of windows n, number of components. Then the first n entries of each table, by position, are
  * the window's parent (a root's is its own position), component, depth, rank in post-order within the component, and the
@@ -85,20 +91,20 @@ uint64_t poddreshi_build(const uint8_t *file, size_t file_length,
                          uint16_t *last_ranks, size_t last_ranks_length,
                          uint8_t *tags, size_t tags_length);
 
-/* The tag file of a plan alone. Questions 1 to 6 and 8: it has room for 10 n bytes.
+/* The tag file of a plan alone. The plan's questions and 8: it has room for 10 n bytes.
  * BUILT, as build answers. The first 10 n bytes of tags are the tags in order of position. */
 uint64_t poddreshi_tags(const uint8_t *file, size_t file_length, uint8_t *tags, size_t tags_length);
 
-/* The short tag file of an even plan. Questions 1 to 6; 13, at the first window that ends before the one ahead of it; and 8: it has
- * room for 8 n bytes.
+/* The short tag file of an even plan. The plan's questions; 13, at the first window that ends before the one ahead of it; and 8: it
+ * has room for 8 n bytes.
  * BUILT, as build answers. The first 8 n bytes of tags are the short tags in order of position. */
 uint64_t poddreshi_short_tags(const uint8_t *file, size_t file_length, uint8_t *tags, size_t tags_length);
 
-/* The reach of a position's component: the depth of its last window plus 1. Questions 1 to 6 and 7.
+/* The reach of a position's component: the depth of its last window plus 1. The plan's questions and 7.
  * REACH: a number of handovers. No two windows of the component are more handovers apart. */
 uint64_t poddreshi_reach(const uint8_t *file, size_t file_length, size_t at);
 
-/* The chain between two windows. Questions 1 to 6, 7 for the first position and then the second, and 8 where there is a
+/* The chain between two windows. The plan's questions, 7 for the first position and then the second, and 8 where there is a
  * chain.
  * CHAIN: its number of entries, of which the handovers are one less. The entries are written from the later window to the
  *     earlier: a chain with the fewest handovers, and of those the one with the earliest window at each step. Of one window
@@ -107,12 +113,12 @@ uint64_t poddreshi_reach(const uint8_t *file, size_t file_length, size_t at);
 uint64_t poddreshi_chain(const uint8_t *file, size_t file_length, size_t first, size_t second,
                          uint16_t *out, size_t out_length);
 
-/* The windows that overlap one window. Questions 1 to 6, 7 and 8.
+/* The windows that overlap one window. The plan's questions, 7 and 8.
  * NEIGHBOURS: how many; their positions are written, rising, without the window itself. */
 uint64_t poddreshi_neighbours(const uint8_t *file, size_t file_length, size_t at, uint16_t *out, size_t out_length);
 
-/* Are two plans the same: equal numbers of windows, and the same pairs of positions overlap? Questions 1 to 6 for the first
- * file, and then for the second.
+/* Are two plans the same: equal numbers of windows, and the same pairs of positions overlap, in each by its own minimum? The plan's
+ * questions for the first file, and then for the second.
  * SAME, or DIFFERENT. */
 uint64_t poddreshi_same(const uint8_t *first, size_t first_length, const uint8_t *second, size_t second_length);
 

@@ -27,12 +27,13 @@ static const uint8_t windows[7][2] = {{0, 10}, {2, 3}, {4, 12}, {9, 2}, {12, 6},
 static const uint16_t numbers[7][5] = {{0, 0, 0, 5, 4}, {0, 0, 1, 0, 3}, {0, 0, 1, 3, 2}, {0, 0, 1, 4, 4},
                                        {2, 0, 2, 2, 1}, {4, 0, 3, 1, 1}, {6, 1, 0, 0, 0}};
 
-static uint8_t file[60];
+static uint8_t file[64];
 static uint16_t parents[7], components[7], depths[7], ranks[7], last_ranks[7], out[7];
 static uint8_t tags[70], alone[70], tag[10];
 
 static void check_plan(void) {
     static const uint16_t chain[] = {5, 4, 2, 3}, near[] = {0, 1, 3, 4};
+    static const uint8_t empty[] = {0, 0, 0, 0, 1, 0, 0, 0};
     uint64_t answer = poddreshi_validate(file, sizeof file);
 
     check(is(answer, PODDRESHI_ACCEPTED, 12, 7, 0) && poddreshi_plan(answer) == 12 && poddreshi_windows(answer) == 7, "validate");
@@ -45,8 +46,8 @@ static void check_plan(void) {
     check(is(answer, PODDRESHI_NEIGHBOURS, 4, 0, 0) && poddreshi_count(answer) == 4, "neighbours");
     check(memcmp(out, near, sizeof near) == 0, "positions of the neighbours");
     check(is(poddreshi_same(file, sizeof file, file, sizeof file), PODDRESHI_SAME, 0, 0, 0), "same");
-    check(is(poddreshi_same(file, sizeof file, (const uint8_t *)"\0\0\0\0", 4), PODDRESHI_DIFFERENT, 0, 0, 0), "different");
-    check(refused(poddreshi_same(file, sizeof file, file, 3), 1, 1, 0), "a short second file");
+    check(is(poddreshi_same(file, sizeof file, empty, sizeof empty), PODDRESHI_DIFFERENT, 0, 0, 0), "different");
+    check(refused(poddreshi_same(file, sizeof file, file, 7), 1, 1, 0), "a short second file");
 }
 
 static void check_build(void) {
@@ -75,13 +76,13 @@ static void check_build(void) {
 
 /* Plan 12 with windows 1 and 3 longer is even and has the tree of plan 12; windows 3 and 4 overlap in it. */
 static void check_short(void) {
-    static uint8_t even[60], tags_of_even[56], short_tag[8];
+    static uint8_t even[64], tags_of_even[56], short_tag[8];
     int i;
 
     check(refused(poddreshi_short_tags(file, sizeof file, tags_of_even, 56), 13, 0, 1), "an end that falls");
     memcpy(even, file, sizeof file);
-    even[8 + 8 * 1] = 9;
-    even[8 + 8 * 3] = 8;
+    even[12 + 8 * 1] = 9;
+    even[12 + 8 * 3] = 8;
     check(is(poddreshi_short_tags(even, sizeof even, tags_of_even, 56), PODDRESHI_BUILT, 12, 7, 2), "short tags");
     for (i = 0; i < 7; i++) {
         const uint16_t *row = numbers[i];
@@ -111,10 +112,28 @@ static void check_figures(void) {
     check(refused(poddreshi_short_write(12, 0, 0, PODDRESHI_FIELD_LIMIT + 1, tag, 8), 10, 0, 0), "the short field's limit");
     longest[2] = n % 256;
     longest[3] = n / 256;
-    for (i = 0; i < n; i++) longest[8 + 8 * i] = 1;
+    longest[4] = 1;
+    for (i = 0; i < n; i++) longest[12 + 8 * i] = 1;
     check(is(poddreshi_validate(longest, sizeof longest), PODDRESHI_ACCEPTED, 0, n, 0), "the longest file");
     longest[2] = (n + 1) % 256;
     check(refused(poddreshi_validate(longest, sizeof longest), 2, 0, 0), "the limit of windows");
+}
+
+/* Two windows that share 5 minutes overlap by a minimum of 5 and not by 6; by 11 both are too short. */
+static void check_minimum(void) {
+    static const uint8_t by_5[] = {12, 0, 2, 0, 5, 0, 0, 0, 0, 0, 0, 0, 10, 0, 0, 0, 5, 0, 0, 0, 10, 0, 0, 0};
+    uint8_t by_another[sizeof by_5];
+
+    memcpy(by_another, by_5, sizeof by_5);
+    by_another[4] = 6;
+    check(is(poddreshi_tags(by_5, sizeof by_5, alone, 20), PODDRESHI_BUILT, 12, 2, 1), "the minimum that is shared");
+    check(is(poddreshi_tags(by_another, sizeof by_another, alone, 20), PODDRESHI_BUILT, 12, 2, 2), "a minute less than the minimum");
+    check(is(poddreshi_same(by_5, sizeof by_5, by_another, sizeof by_another), PODDRESHI_DIFFERENT, 0, 0, 0), "two minimums");
+    by_another[4] = 11;
+    check(refused(poddreshi_validate(by_another, sizeof by_another), 4, 0, 0), "a window shorter than the minimum");
+    by_another[4] = 0;
+    check(refused(poddreshi_validate(by_another, sizeof by_another), 14, 0, 0), "no minimum");
+    check(refused(poddreshi_same(by_5, sizeof by_5, by_another, sizeof by_another), 14, 1, 0), "no minimum in the second file");
 }
 
 int main(void) {
@@ -122,16 +141,18 @@ int main(void) {
 
     file[0] = 12;
     file[2] = 7;
+    file[4] = 1;
     for (i = 0; i < 7; i++) {
-        file[4 + 8 * i] = windows[i][0];
-        file[8 + 8 * i] = windows[i][1];
+        file[8 + 8 * i] = windows[i][0];
+        file[12 + 8 * i] = windows[i][1];
     }
     check_plan();
     check_build();
     check_short();
     check_figures();
-    file[4 + 8 * 3] = 1;
+    check_minimum();
+    file[8 + 8 * 3] = 1;
     check(refused(poddreshi_validate(file, sizeof file), 6, 0, 3), "a falling offset");
-    puts("header: every call on plan 12 and every figure as it should be");
+    puts("header: every call on plan 12, every figure and the minimum as they should be");
     return 0;
 }
