@@ -80,7 +80,7 @@ impl Comparison {
         assert_eq!(calls::neighbours(file, at, &mut out), refused, "neighbours");
         out.holds("refused", &[]);
         assert_eq!(calls::same(file, file), refused, "same");
-        let good = [9, 0, 1, 0, 3, 0, 0, 0, 1, 0, 0, 0];
+        let good = [9, 0, 1, 0, 1, 0, 0, 0, 3, 0, 0, 0, 1, 0, 0, 0];
         let second = Answer::Refused(Refusal { input: 1, ..no });
         assert_eq!(calls::same(&good, file), second, "same, the second file");
         assert_eq!(calls::same(file, &good), refused, "same, the first file");
@@ -92,6 +92,9 @@ impl Comparison {
         let (n, windows) = (tree.n, tree.n as u16);
         assert_eq!(calls::validate(file), Answer::Accepted { plan: plan.number, windows }, "validate");
         self.tables(file, &tree);
+        if plan.minimum == 1 {
+            self.as_before(file, plan, &tree);
+        }
         if n > 0 {
             self.tables_too_short(file, n);
         }
@@ -116,6 +119,13 @@ impl Comparison {
         assert_eq!(calls::build(file, &mut lent), tree.built(), "build");
         lent.holds("build", &tree.columns());
         self.calls += 1;
+    }
+
+    /// "A minimum of 1 gives the tables of before": those of paper 01, in which windows that share a minute overlap.
+    fn as_before(&mut self, file: &[u8], plan: &Plan, tree: &Tree) {
+        let before = Tree::of_before(plan);
+        assert!(before.overlaps == tree.overlaps, "the oracle's overlaps by a minimum of 1 and by paper 01");
+        self.tables(file, &before);
     }
 
     /// One of the tables, or the tag file, too short, half of the times by one.
@@ -303,14 +313,15 @@ impl Comparison {
         }
     }
 
-    /// Sameness of two accepted plans, and that equal tags apart from the plan number say just that.
+    /// Sameness of two accepted plans, in both orders, and that equal tags apart from the plan number say just that.
     pub fn sameness(&mut self, first: &[u8], second: &[u8]) {
         let trees = [first, second].map(|file| Tree::of(&oracle::read_plan(file, 0).ok().unwrap()));
         let [a, b] = &trees;
         let answer = if a.same_as(b) { Answer::Same } else { Answer::Different };
         assert_eq!(calls::same(first, second), answer, "same");
+        assert_eq!(calls::same(second, first), answer, "same, in the other order");
         let fields = |tree: &Tree| (0..tree.n).map(|v| tree.fields(Form::Long, v)).collect::<Vec<_>>();
         assert_eq!(fields(a) == fields(b), a.same_as(b), "equal tags and sameness");
-        self.calls += 1;
+        self.calls += 2;
     }
 }

@@ -6,7 +6,7 @@ use crate::oracle::{self, Columns, Tree};
 
 pub type Owed<W> = Result<(Answer, W), Refusal>;
 
-/// Questions 1 to 6.
+/// Questions 1, 2, 14 and 3 to 6.
 fn tree_of(file: &[u8], input: u16) -> Result<Tree, Refusal> {
     Ok(Tree::of(&oracle::read_plan(file, input)?))
 }

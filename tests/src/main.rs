@@ -12,6 +12,7 @@ mod compare;
 mod expected;
 mod forms;
 mod listing;
+mod minimums;
 mod oracle;
 mod paper;
 mod random;
@@ -22,7 +23,7 @@ use answers::{refusal, Answer};
 use compare::{Comparison, Depth};
 use forms::{Form, FORMS};
 use random::Random;
-use shapes::{evened, file_of, nearly_even, patterns, windows, SHAPES};
+use shapes::{evened, file_of, greatest_minimum, lengthened, nearly_even, old_file_of, patterns, plain, windows, with_minimum, SHAPES};
 use std::sync::Mutex;
 use std::time::Instant;
 
@@ -77,7 +78,13 @@ fn listed_cases(run: &mut Run) {
         println!("listing: not tried, since no --listing PROGRAM was given");
         return;
     };
+    let mut listed = Vec::new();
     for case in paper::cases() {
+        let asked = (case.file.clone(), case.printed());
+        if listed.contains(&asked) {
+            continue;
+        }
+        listed.push(asked);
         run.case(&format!("listing, {}", case.name), &mut |_| listing::hold(&program, &case.file, &case.printed()));
     }
     run.report("listing");
@@ -86,6 +93,7 @@ fn listed_cases(run: &mut Run) {
 /// Every refusal of every call, alone and two at a time.
 fn every_refusal(run: &mut Run) {
     run.case("faulty files", &mut refusals::faulty_files);
+    run.case("files of up to 20 bytes", &mut refusals::short_files);
     run.case("two faulty files", &mut refusals::two_files);
     run.case("positions and rooms", &mut refusals::positions_and_rooms);
     run.case("rooms of build", &mut refusals::rooms_of_build);
@@ -102,10 +110,10 @@ fn every_refusal(run: &mut Run) {
 /// Every overlap pattern, with every pair of positions in both orders, and every two patterns for sameness.
 fn every_pattern(run: &mut Run) {
     for n in 0..=run.times(6, 8) as usize {
-        for pattern in patterns(n) {
+        for lasts in patterns(n) {
             run.case("a pattern", &mut |comparison| {
                 let plan = comparison.random.next() as u16;
-                comparison.file(&file_of(plan, &pattern), Depth::Whole);
+                comparison.file(&file_of(plan, 1, &plain(&lasts)), Depth::Whole);
             });
         }
     }
@@ -113,30 +121,48 @@ fn every_pattern(run: &mut Run) {
         let (one, more) = (patterns(n), patterns(n + 1));
         for first in &one {
             run.case("a pattern beside all others", &mut |comparison| {
+                let first = file_of(1, 1, &plain(first));
                 for second in one.iter().chain(more.iter().take(1)) {
-                    comparison.sameness(&file_of(1, first), &file_of(2, second));
+                    let second = plain(second);
+                    comparison.sameness(&first, &file_of(2, 1, &second));
+                    comparison.sameness(&first, &file_of(2, 3, &lengthened(&second, 2)));
                 }
-                let stretched: Vec<(u32, u32)> = first.iter().map(|w| (7 * w.0 + 5, 7 * w.1)).collect();
-                comparison.sameness(&file_of(1, first), &file_of(1, &stretched));
             });
         }
     }
     run.report("patterns");
 }
 
+/// Every overlap pattern by several minimums.
+fn every_pattern_by_minimums(run: &mut Run) {
+    for n in 0..=run.times(6, 7) as usize {
+        for lasts in patterns(n) {
+            run.case("a pattern by several minimums", &mut |comparison| {
+                for minimum in [2, 7, 86_400] {
+                    minimums::pattern(comparison, &lasts, minimum);
+                }
+            });
+        }
+    }
+    run.report("patterns by several minimums");
+}
+
 /// Every pattern that even plans have, its minutes doubled and each end in turn lowered by one: the pattern stays, and with it
 /// every last, but the plan is no longer even where the window ahead ended with the one that is lowered.
 fn every_lowered_end(run: &mut Run) {
-    let ends_rise = |windows: &&Vec<(u32, u32)>| evened(windows) == **windows;
+    let ends_rise = |windows: &Vec<(u32, u32)>| evened(windows) == *windows;
     for n in 2..=run.times(6, 8) as usize {
-        for pattern in patterns(n).iter().filter(ends_rise) {
+        for pattern in patterns(n).iter().map(|lasts| plain(lasts)).filter(ends_rise) {
             run.case("a pattern with an end lowered", &mut |comparison| {
-                let apart: Vec<(u32, u32)> = pattern.iter().map(|w| (2 * w.0, 2 * w.1)).collect();
-                for at in 0..n {
-                    let mut lowered = apart.clone();
-                    lowered[at].1 -= 1;
-                    comparison.sameness(&file_of(1, &apart), &file_of(2, &lowered));
-                    comparison.file(&file_of(2, &lowered), Depth::Whole);
+                let doubled: Vec<(u32, u32)> = pattern.iter().map(|w| (2 * w.0, 2 * w.1)).collect();
+                for minimum in [1, 5] {
+                    let apart = lengthened(&doubled, minimum - 1);
+                    for at in 0..n {
+                        let mut lowered = apart.clone();
+                        lowered[at].1 -= 1;
+                        comparison.sameness(&file_of(1, minimum, &apart), &file_of(2, minimum, &lowered));
+                        comparison.file(&file_of(2, minimum, &lowered), Depth::Whole);
+                    }
                 }
             });
         }
@@ -144,26 +170,45 @@ fn every_lowered_end(run: &mut Run) {
     run.report("patterns with an end lowered");
 }
 
-/// Small random plans of each shape, all pairs, and each beside a plan that differs in one window.
+/// Small random plans of each shape, all pairs, and each beside a plan that differs in one window and one that has another minimum.
 fn small_plans(run: &mut Run) {
-    for _ in 0..run.times(2_500, 50_000) {
+    for _ in 0..run.times(2_000, 50_000) {
         for shape in SHAPES {
             run.case(&format!("{shape:?}, small"), &mut |comparison| {
-                let n = comparison.random.below(33) as usize;
-                let plan = windows(shape, n, &mut comparison.random);
-                let file = file_of(comparison.random.next() as u16, &plan);
-                comparison.file(&file, Depth::Whole);
+                let random = &mut comparison.random;
+                let n = random.below(33) as usize;
+                let (minimum, plan) = with_minimum(windows(shape, n, random), random);
                 let mut other = plan.clone();
                 if n > 0 {
-                    let at = comparison.random.below(n as u64) as usize;
-                    other[at].1 = comparison.random.between(1, 12) as u32;
+                    let at = random.below(n as u64) as usize;
+                    other[at].1 = minimum - 1 + random.between(1, 12) as u32;
                     other[at].1 = other[at].1.min(10_000_000 - other[at].0);
                 }
-                comparison.sameness(&file_of(1, &plan), &file_of(2, &other));
+                let other_minimum = random.between(1, greatest_minimum(&plan) as u64) as u32;
+                let file = file_of(random.next() as u16, minimum, &plan);
+                comparison.file(&file, Depth::Whole);
+                comparison.sameness(&file, &file_of(2, minimum, &other));
+                comparison.sameness(&file, &file_of(2, other_minimum, &plan));
             });
         }
     }
     run.report("small plans");
+}
+
+/// Small plans of each shape by every minimum that they can have.
+fn rising_minimums(run: &mut Run) {
+    for _ in 0..run.times(20, 1_000) {
+        for shape in SHAPES {
+            run.case(&format!("{shape:?}, as the minimum rises"), &mut |comparison| {
+                let random = &mut comparison.random;
+                let n = random.between(1, 12) as usize;
+                let more = random.below(20) as u32;
+                let plan = lengthened(&windows(shape, n, random), more);
+                minimums::rising_minimum(comparison, &plan);
+            });
+        }
+    }
+    run.report("rising minimums");
 }
 
 /// Small even plans of each shape, all pairs, and the like with one end that is equal or falls.
@@ -171,12 +216,13 @@ fn small_even_plans(run: &mut Run) {
     for _ in 0..run.times(400, 10_000) {
         for shape in SHAPES {
             run.case(&format!("{shape:?}, small and even"), &mut |comparison| {
-                let n = comparison.random.below(33) as usize;
-                let plan = windows(shape, n, &mut comparison.random);
-                let number = comparison.random.next() as u16;
-                comparison.file(&file_of(number, &evened(&plan)), Depth::Whole);
-                let other = nearly_even(&plan, &mut comparison.random);
-                comparison.file(&file_of(number, &other), Depth::Whole);
+                let random = &mut comparison.random;
+                let n = random.below(33) as usize;
+                let (minimum, plan) = with_minimum(windows(shape, n, random), random);
+                let number = random.next() as u16;
+                let other = nearly_even(&plan, minimum, random);
+                comparison.file(&file_of(number, minimum, &evened(&plan)), Depth::Whole);
+                comparison.file(&file_of(number, minimum, &other), Depth::Whole);
             });
         }
     }
@@ -193,9 +239,10 @@ fn large_plans(run: &mut Run) {
     for turn in 0..run.times(4, 100) {
         for shape in SHAPES {
             run.case(&format!("{shape:?}, large"), &mut |comparison| {
-                let n = many(turn, &mut comparison.random);
-                let plan = windows(shape, n, &mut comparison.random);
-                let file = file_of(comparison.random.next() as u16, &plan);
+                let random = &mut comparison.random;
+                let n = many(turn, random);
+                let (minimum, plan) = with_minimum(windows(shape, n, random), random);
+                let file = file_of(random.next() as u16, minimum, &plan);
                 comparison.file(&file, Depth::Sampled);
             });
         }
@@ -208,11 +255,12 @@ fn large_even_plans(run: &mut Run) {
     for turn in 0..run.times(2, 50) {
         for shape in SHAPES {
             run.case(&format!("{shape:?}, large and even"), &mut |comparison| {
-                let n = many(turn, &mut comparison.random);
-                let plan = windows(shape, n, &mut comparison.random);
-                let number = comparison.random.next() as u16;
-                comparison.file(&file_of(number, &evened(&plan)), Depth::Sampled);
-                let other = file_of(number, &nearly_even(&plan, &mut comparison.random));
+                let random = &mut comparison.random;
+                let n = many(turn, random);
+                let (minimum, plan) = with_minimum(windows(shape, n, random), random);
+                let number = random.next() as u16;
+                let other = file_of(number, minimum, &nearly_even(&plan, minimum, random));
+                comparison.file(&file_of(number, minimum, &evened(&plan)), Depth::Sampled);
                 comparison.tag_file(Form::Short, &other, 8 * n).agree(format_args!("short tags"));
             });
         }
@@ -220,16 +268,19 @@ fn large_even_plans(run: &mut Run) {
     run.report("large even plans");
 }
 
-const NUMBERS: [u32; 14] =
-    [0, 1, 2, 9, 255, 256, 65_535, 65_536, 9_999_999, 10_000_000, 10_000_001, 1 << 31, u32::MAX - 1, u32::MAX];
+const NUMBERS: [u32; 16] = [
+    0, 1, 2, 9, 255, 256, 65_535, 65_536, 86_400, 86_401, 9_999_999, 10_000_000, 10_000_001, 1 << 31, u32::MAX - 1, u32::MAX,
+];
 
-/// Files with one field changed, cut short anywhere, or with bytes added.
+/// Files with one field changed, cut short anywhere, with bytes added, or without a minimum.
 fn damaged_files(run: &mut Run) {
-    for _ in 0..run.times(400, 10_000) {
+    for _ in 0..run.times(250, 10_000) {
         for shape in SHAPES {
             run.case(&format!("{shape:?}, damaged"), &mut |comparison| {
-                let n = comparison.random.below(9) as usize;
-                let file = file_of(12, &windows(shape, n, &mut comparison.random));
+                let random = &mut comparison.random;
+                let n = random.below(9) as usize;
+                let (minimum, plan) = with_minimum(windows(shape, n, random), random);
+                let file = file_of(12, minimum, &plan);
                 for cut in 0..file.len() {
                     comparison.file(&file[..cut], Depth::Whole);
                 }
@@ -240,13 +291,15 @@ fn damaged_files(run: &mut Run) {
                     other[2..4].copy_from_slice(&(count as u16).to_le_bytes());
                     comparison.file(&other, Depth::Whole);
                 }
-                for field in 0..2 * n {
+                // The minimum, and then offset and length of each window.
+                for field in 0..1 + 2 * n {
                     for number in NUMBERS {
                         let mut other = file.clone();
                         other[4 + 4 * field..8 + 4 * field].copy_from_slice(&number.to_le_bytes());
                         comparison.file(&other, Depth::Whole);
                     }
                 }
+                comparison.file(&old_file_of(12, &plan), Depth::Whole);
                 let bit = comparison.random.below(8 * file.len() as u64) as usize;
                 let mut other = file.clone();
                 other[bit / 8] ^= 1 << (bit % 8);
@@ -257,31 +310,37 @@ fn damaged_files(run: &mut Run) {
     run.report("damaged files");
 }
 
-/// The edges of n: 2,048 windows, 2,049 in a long and in a short file; two plans of 2,048.
+/// The edges of n: 2,048 windows, 2,049 in a long and in a short file; two plans of 2,048; minimums near the lengths of 2,048.
 fn edges_of_n(run: &mut Run) {
     run.case("n at its limit", &mut |comparison| {
         for n in [2047, 2048, 2049] {
             let plan = vec![(9_999_999, 1); n];
-            comparison.file(&file_of(3, &plan), Depth::Sampled);
-            comparison.file(&file_of(3, &plan)[..5], Depth::Sampled);
+            comparison.file(&file_of(3, 1, &plan), Depth::Sampled);
+            comparison.file(&file_of(3, 1, &plan)[..9], Depth::Sampled);
+            comparison.file(&file_of(3, 0, &plan), Depth::Sampled);
+            comparison.file(&file_of(3, 2, &plan), Depth::Sampled);
         }
         let mut last = vec![(0, 5); 2048];
-        last[2047] = (0, 0);
-        comparison.file(&file_of(3, &last), Depth::Sampled);
+        last[2047] = (0, 4);
+        comparison.file(&file_of(3, 5, &last), Depth::Sampled);
     });
     run.case("2,048 windows, of which the last end falls", &mut |comparison| {
         let mut falling = vec![(0, 5); 2048];
         falling[2047] = (0, 4);
-        let both = comparison.tag_file(Form::Short, &file_of(3, &falling), 8 * 2048);
+        let both = comparison.tag_file(Form::Short, &file_of(3, 4, &falling), 8 * 2048);
         both.are(format_args!("short tags"), Answer::Refused(refusal(13, 0, 2047)), &vec![]);
     });
     run.case("2,048 windows, the same but for the last", &mut |comparison| {
         let apart: Vec<(u32, u32)> = (0..2048).map(|v| (v, 1)).collect();
         let mut joined = apart.clone();
         joined[2046].1 = 2;
-        comparison.sameness(&file_of(3, &apart), &file_of(4, &apart));
-        comparison.sameness(&file_of(3, &apart), &file_of(3, &joined));
+        comparison.sameness(&file_of(3, 1, &apart), &file_of(4, 1, &apart));
+        comparison.sameness(&file_of(3, 1, &apart), &file_of(4, 7, &lengthened(&apart, 6)));
+        comparison.sameness(&file_of(3, 1, &apart), &file_of(3, 1, &joined));
+        comparison.sameness(&file_of(3, 1, &apart), &file_of(3, 7, &lengthened(&joined, 6)));
     });
+    run.case("2,048 windows, minimums near their lengths", &mut minimums::many_windows);
+    run.report("edges of n");
 }
 
 fn field(random: &mut Random) -> u16 {
@@ -347,8 +406,10 @@ fn main() {
     paper_cases(&mut run);
     every_refusal(&mut run);
     every_pattern(&mut run);
+    every_pattern_by_minimums(&mut run);
     every_lowered_end(&mut run);
     edges_of_n(&mut run);
+    rising_minimums(&mut run);
     small_plans(&mut run);
     small_even_plans(&mut run);
     large_plans(&mut run);

@@ -1,5 +1,5 @@
-//! What the papers say, by brute force: windows as sets of minutes, overlap as a minute that both sets have, least numbers
-//! of handovers by breadth-first search, post-order by recursion. Nothing here is taken from the library: where it has a
+//! What the papers say, by brute force: windows as sets of minutes, overlap as a count of the minutes that both sets have, least
+//! numbers of handovers by breadth-first search, post-order by recursion. Nothing here is taken from the library: where it has a
 //! formula, this has a search.
 use crate::answers::{refusal, Answer, Refusal};
 use crate::forms::Form;
@@ -10,24 +10,30 @@ fn number(bytes: &[u8]) -> u64 {
 
 pub struct Plan {
     pub number: u16,
+    /// The minimum handover, in minutes.
+    pub minimum: u64,
     pub windows: Vec<(u64, u64)>,
 }
 
-/// Questions 1 to 6.
+/// Questions 1, 2, 14 and 3, and then 4 to 6, window after window.
 pub fn read_plan(file: &[u8], input: u16) -> Result<Plan, Refusal> {
-    if file.len() < 4 {
+    if file.len() < 8 {
         return Err(refusal(1, input, 0));
     }
     let n = number(&file[2..4]) as usize;
     if n > 2048 {
         return Err(refusal(2, input, 0));
     }
-    if file.len() != 4 + 8 * n {
+    let minimum = number(&file[4..8]);
+    if !(1..=86_400).contains(&minimum) {
+        return Err(refusal(14, input, 0));
+    }
+    if file.len() != 8 + 8 * n {
         return Err(refusal(3, input, 0));
     }
-    let windows: Vec<(u64, u64)> = file[4..].chunks(8).map(|pair| (number(&pair[..4]), number(&pair[4..]))).collect();
+    let windows: Vec<(u64, u64)> = file[8..].chunks(8).map(|pair| (number(&pair[..4]), number(&pair[4..]))).collect();
     for (position, &(offset, length)) in windows.iter().enumerate() {
-        if length < 1 {
+        if length < minimum {
             return Err(refusal(4, input, position));
         }
         if offset + length > 10_000_000 {
@@ -37,7 +43,7 @@ pub fn read_plan(file: &[u8], input: u16) -> Result<Plan, Refusal> {
             return Err(refusal(6, input, position));
         }
     }
-    Ok(Plan { number: number(&file[..2]) as u16, windows })
+    Ok(Plan { number: number(&file[..2]) as u16, minimum, windows })
 }
 
 /// Question 13, where short tags are wanted: "at the first window ending before the one ahead of it".
@@ -47,6 +53,12 @@ pub fn is_even(plan: &Plan) -> Result<(), Refusal> {
         Some(v) => Err(refusal(13, 0, v)),
         None => Ok(()),
     }
+}
+
+/// Which bits of a word are set.
+fn ones(word: u64) -> impl Iterator<Item = usize> {
+    let rest = |word: &u64| Some(word & (word - 1)).filter(|&rest| rest != 0);
+    std::iter::successors(Some(word).filter(|&word| word != 0), rest).map(|word| word.trailing_zeros() as usize)
 }
 
 /// A set of small numbers.
@@ -76,34 +88,63 @@ impl Set {
         self.0.iter().all(|&word| word == 0)
     }
     pub fn members(&self) -> Vec<usize> {
-        (0..64 * self.0.len()).filter(|&x| self.has(x)).collect()
+        self.0.iter().enumerate().flat_map(|(i, &word)| ones(word).map(move |bit| 64 * i + bit)).collect()
     }
 }
 
 /// Plans that end later than this have their minutes taken in runs in which no window begins or ends.
 const MINUTE_BY_MINUTE: u64 = 4096;
 
-/// The minutes that each window covers, as a set.
-fn minutes(plan: &Plan) -> Vec<Set> {
-    let latest = plan.windows.iter().map(|w| w.0 + w.1).max().unwrap_or(0);
-    let starts: Vec<u64> = if latest <= MINUTE_BY_MINUTE {
-        (0..latest).collect()
-    } else {
-        let mut bounds: Vec<u64> = plan.windows.iter().flat_map(|w| [w.0, w.0 + w.1]).collect();
-        bounds.sort_unstable();
-        bounds.dedup();
-        bounds
-    };
-    let covered = |&(offset, length): &(u64, u64)| {
-        let mut set = Set::empty(starts.len());
-        for (i, &minute) in starts.iter().enumerate() {
-            if offset <= minute && minute < offset + length {
-                set.add(i);
+/// The minutes of a plan up to its latest end, laid out in runs; in a plan that ends early each run is one minute.
+struct Minutes {
+    /// How many minutes each run has.
+    lengths: Vec<u64>,
+    /// The same for each 64 runs, which stand in one word of a set.
+    together: Vec<u64>,
+    /// By position, the runs that the window covers.
+    covered: Vec<Set>,
+}
+
+impl Minutes {
+    fn of(plan: &Plan) -> Minutes {
+        let latest = plan.windows.iter().map(|w| w.0 + w.1).max().unwrap_or(0);
+        let bounds: Vec<u64> = if latest <= MINUTE_BY_MINUTE {
+            (0..=latest).collect()
+        } else {
+            let mut bounds: Vec<u64> = plan.windows.iter().flat_map(|w| [w.0, w.0 + w.1]).collect();
+            bounds.sort_unstable();
+            bounds.dedup();
+            bounds
+        };
+        let lengths: Vec<u64> = bounds.windows(2).map(|two| two[1] - two[0]).collect();
+        let covered = |&(offset, length): &(u64, u64)| {
+            let mut set = Set::empty(lengths.len());
+            for (run, &minute) in bounds[..lengths.len()].iter().enumerate() {
+                if offset <= minute && minute < offset + length {
+                    set.add(run);
+                }
             }
+            set
+        };
+        let covered = plan.windows.iter().map(covered).collect();
+        let together = lengths.chunks(64).map(|runs| runs.iter().sum()).collect();
+        Minutes { lengths, together, covered }
+    }
+
+    /// How many minutes both windows cover.
+    fn shared(&self, u: usize, v: usize) -> u64 {
+        let words = self.covered[u].0.iter().zip(&self.covered[v].0).enumerate();
+        words.map(|(word, (a, b))| self.count(word, a & b)).sum()
+    }
+
+    /// How many minutes some runs of one word have.
+    fn count(&self, word: usize, runs: u64) -> u64 {
+        match runs {
+            0 => 0,
+            u64::MAX => self.together[word],
+            some => ones(some).map(|run| self.lengths[64 * word + run]).sum(),
         }
-        set
-    };
-    plan.windows.iter().map(covered).collect()
+    }
 }
 
 /// The tree of an accepted plan, and which windows overlap.
@@ -136,13 +177,24 @@ fn post_order(v: usize, children: &[Vec<usize>], out: &mut Vec<usize>) {
 }
 
 impl Tree {
+    /// Paper 02, Q-2: "Two windows overlap when they share at least that many minutes."
     pub fn of(plan: &Plan) -> Tree {
+        let minutes = Minutes::of(plan);
+        Tree::where_overlap(plan, &|u, v| minutes.shared(u, v) >= plan.minimum)
+    }
+
+    /// Paper 01, which knows no minimum: "Two different windows overlap when they share a minute."
+    pub fn of_before(plan: &Plan) -> Tree {
+        let minutes = Minutes::of(plan);
+        Tree::where_overlap(plan, &|u, v| minutes.covered[u].shares_with(&minutes.covered[v]))
+    }
+
+    fn where_overlap(plan: &Plan, overlap: &dyn Fn(usize, usize) -> bool) -> Tree {
         let n = plan.windows.len();
-        let minutes = minutes(plan);
         let mut overlaps = vec![Set::empty(n); n];
         for u in 0..n {
             for v in u + 1..n {
-                if minutes[u].shares_with(&minutes[v]) {
+                if overlap(u, v) {
                     overlaps[u].add(v);
                     overlaps[v].add(u);
                 }

@@ -7,7 +7,7 @@ use crate::compare::Comparison;
 use crate::forms::Form;
 use crate::oracle::{tag_bytes, Columns};
 use crate::refusals::every_call_refuses;
-use crate::shapes::file_of;
+use crate::shapes::{file_of, windows_in};
 use Says::*;
 
 pub const PLAN_12: [(u32, u32); 7] = [(0, 10), (2, 3), (4, 12), (9, 2), (12, 6), (17, 1), (18, 4)];
@@ -75,8 +75,9 @@ pub struct Case {
     says: Says,
 }
 
+/// A case by a minimum of 1, by which paper 01's are as they were.
 fn case(name: &'static str, windows: &[(u32, u32)], says: Says) -> Case {
-    Case { name, file: file_of(12, windows), says }
+    Case { name, file: file_of(12, 1, windows), says }
 }
 
 pub fn cases() -> Vec<Case> {
@@ -102,7 +103,7 @@ fn worked() -> Vec<Case> {
 }
 
 fn edges() -> Vec<Case> {
-    let short = |name, says| Case { name, file: vec![12, 0, 1, 8], says };
+    let short = |name, says| Case { name, file: vec![12, 0, 1, 8, 1, 0, 0, 0], says };
     vec![
         case("n 2,048 passes", &vec![(0, 1); 2048], Begins(12, 2048, 1)),
         case("n 2,049 is 2", &vec![(0, 1); 2049], Refused(2, 0)),
@@ -116,29 +117,30 @@ fn edges() -> Vec<Case> {
         case("P (0, 11) (10, 5) are one component", &[(0, 11), (10, 5)], Begins(12, 2, 1)),
         case("(0, 11) (10, 5): 1 handover", &[(0, 11), (10, 5)], Handovers(0, 1, 1, Some(&[1, 0]))),
         case("two windows (5, 5): 1 handover", &[(5, 5), (5, 5)], Handovers(0, 1, 1, Some(&[1, 0]))),
-        case("four bytes with plan number 12 and n = 0", &[], Lists("12 0 0\n")),
+        case("eight bytes with plan number 12 and n = 0", &[], Lists("12 0 0\n")),
     ]
 }
 
-/// As many bytes as are asked for, of which the first 16,388 are a plan of 2,048 windows, each over the next.
+/// As many bytes as are asked for, of which the first 16,392 are a plan of 2,048 windows, each over the next.
 fn long_input(bytes: usize) -> Vec<u8> {
     let windows: Vec<(u32, u32)> = (0..2048).map(|v| (2 * v, 3)).collect();
-    let mut file = file_of(12, &windows);
+    let mut file = file_of(12, 1, &windows);
     file.resize(bytes, 0);
     file
 }
 
-/// "a buffer of 16,389 zero bytes (one more than any plan)"
+/// "a buffer of 16,389 zero bytes (one more than any plan)", and paper 02: "The program's buffer grows by 4."
 fn long_inputs() -> Vec<Case> {
     let long = |name, bytes, says| Case { name, file: long_input(bytes), says };
     vec![
-        long("16,388 bytes are the longest plan", 16_388, Begins(12, 2048, 1)),
-        long("16,387 bytes for 2,048 windows are 3", 16_387, Refused(3, 0)),
-        long("16,389 bytes, as many as the listing's buffer, are 3", 16_389, Refused(3, 0)),
-        long("16,390 bytes, one more than the buffer, are 3", 16_390, Refused(3, 0)),
+        long("16,392 bytes are the longest plan", 16_392, Begins(12, 2048, 1)),
+        long("16,391 bytes for 2,048 windows are 3", 16_391, Refused(3, 0)),
+        long("16,388 bytes, the longest plan of before, are 3", 16_388, Refused(3, 0)),
+        long("16,393 bytes, as many as the listing's buffer, are 3", 16_393, Refused(3, 0)),
+        long("16,394 bytes, one more than the buffer, are 3", 16_394, Refused(3, 0)),
         long("70,000 bytes are 3", 70_000, Refused(3, 0)),
         // In 16 bits this length is that of the longest plan.
-        long("16,388 and 65,536 bytes are 3", 16_388 + 65_536, Refused(3, 0)),
+        long("16,392 and 65,536 bytes are 3", 16_392 + 65_536, Refused(3, 0)),
     ]
 }
 
@@ -176,7 +178,7 @@ fn short_tags() -> Vec<Case> {
         case("an end falls in plan 12 at position 1", &PLAN_12, Falls(1)),
         case("an end falls by a minute", &[(0, 10), (0, 9)], Falls(1)),
         case("equal ends do not fall", &[(0, 10), (1, 9)], ShortTags(&[[12, 0, 0, 1], [12, 0, 1, 0]])),
-        case("four bytes with n = 0: no short tags, and no refusal", &[], ShortTags(&[])),
+        case("eight bytes with n = 0: no short tags, and no refusal", &[], ShortTags(&[])),
     ]
 }
 
@@ -208,10 +210,6 @@ impl Case {
         }
         assert_eq!(file, &self.file, "a file that was only to be read");
     }
-}
-
-fn windows(file: &[u8]) -> usize {
-    (file.len() - 4) / 8
 }
 
 /// Rooms that fit, and rooms that are longer.
@@ -256,7 +254,7 @@ fn lists(comparison: &mut Comparison, file: &[u8], listing: &str) {
 
 /// What both sides write of a plan.
 fn columns(comparison: &mut Comparison, file: &[u8]) -> Columns {
-    let n = windows(file);
+    let n = windows_in(file);
     let built = comparison.build(file, [n + 5; 5], 10 * n + 5);
     built.agree(format_args!("build"));
     built.written
@@ -313,13 +311,13 @@ fn short_tag_file(comparison: &mut Comparison, file: &[u8], paper: &[[u16; 4]]) 
 
 /// From the short tags, the long ones and the plan.
 fn short_handovers(comparison: &mut Comparison, file: &[u8], at: (usize, usize), count: u16) {
-    let tags = comparison.tag_file(Form::Short, file, 8 * windows(file)).written;
+    let tags = comparison.tag_file(Form::Short, file, 8 * windows_in(file)).written;
     from_tags(comparison, Form::Short, &tags, at, Answer::Handovers(count));
     handovers(comparison, file, at, count, None);
 }
 
 fn falls(comparison: &mut Comparison, file: &[u8], position: usize) {
-    for room in [0, 8 * windows(file)] {
+    for room in [0, 8 * windows_in(file)] {
         let both = comparison.tag_file(Form::Short, file, room);
         both.are(format_args!("short tags, room for {room}"), Answer::Refused(refusal(13, 0, position)), &vec![]);
     }

@@ -1,11 +1,11 @@
 //! Every refusal of every call, alone and two at a time, on inputs that are chosen and not drawn. The number and the position
 //! that a faulty file or tag is due stand beside it, from the order of the paper's questions.
 use crate::answers::{refusal, Answer};
-use crate::compare::Comparison;
+use crate::compare::{Comparison, Depth};
 use crate::forms::{Form, FORMS};
 use crate::oracle::{tag_bytes, Columns};
 use crate::paper::{PLAN_12, PLAN_12_EVEN};
-use crate::shapes::file_of;
+use crate::shapes::{file_of, lengthened, old_file_of, windows_in};
 
 /// A file that is refused: by which question, and at which position.
 struct Faulty {
@@ -18,57 +18,102 @@ fn faulty(number: u16, position: usize, file: &[u8]) -> Faulty {
     Faulty { file: file.to_vec(), number, position }
 }
 
-/// A file whose header has this n, and then so many bytes.
-fn headed(n: u16, bytes: usize) -> Vec<u8> {
-    [&[12, 0][..], &n.to_le_bytes(), &vec![0; bytes]].concat()
+/// A file whose header has this n and this minimum, and then so many bytes.
+fn headed(n: u16, minimum: u32, bytes: usize) -> Vec<u8> {
+    [&[12, 0][..], &n.to_le_bytes(), &minimum.to_le_bytes(), &vec![0; bytes]].concat()
 }
 
-/// Questions 1 to 3, each of files that a later one would refuse too: n too great in a file too short or too long, windows of
-/// length 0 in a file of the wrong length.
+/// Minimums that a plan can have.
+const MINIMUMS: [u32; 6] = [1, 2, 255, 256, 65_536, 86_400];
+
+/// Minimums that none can have, among them such as are one in 8, 16 or 24 bits, or in the upper two bytes.
+const NO_MINIMUMS: [u32; 9] = [0, 86_401, 65_536 * 2, 65_536 * 255, 1 << 24, (1 << 24) + 1, 1 << 31, 0xffff_0001, 4_294_967_295];
+
+/// Questions 1, 2, 14 and 3, each of files that later ones would refuse too: files of less than 8 bytes whatever they hold; n too
+/// great by any minimum in a file of any length; no minimum in a file of any length; windows of length 0 in one of the wrong length.
 fn faulty_headers() -> Vec<Faulty> {
-    let short = [&[][..], &[12], &[12, 0], &[12, 0, 255]].map(|file| faulty(1, 0, file));
-    let great = [(2049, 0), (2049, 1), (2049, 8 * 2049), (2049, 8 * 2049 + 1), (65_535, 3)];
-    let wrong = [(0, 1), (0, 8), (1, 0), (1, 7), (1, 9), (2, 8), (2, 24), (2048, 8 * 2048 - 1), (2048, 8 * 2048 + 1)];
-    let headers = great.map(|with| (2, with)).into_iter().chain(wrong.map(|with| (3, with)));
-    headers.map(|(number, (n, bytes))| faulty(number, 0, &headed(n, bytes))).chain(short).collect()
+    let mut all = Vec::new();
+    for (n, minimum) in [(0, 0), (0, 1), (1, 86_400), (2048, 86_401), (2049, 1), (2049, 0), (65_535, 4_294_967_295)] {
+        all.extend((0..8).map(|length| faulty(1, 0, &headed(n, minimum, 0)[..length])));
+    }
+    for (n, bytes) in [(2049, 0), (2049, 1), (2049, 8 * 2049), (2049, 8 * 2049 + 1), (65_535, 3)] {
+        let minimums = [1, 86_400].into_iter().chain(NO_MINIMUMS);
+        all.extend(minimums.map(|minimum| faulty(2, 0, &headed(n, minimum, bytes))));
+    }
+    let wrong = [(0, 1), (0, 8), (1, 0), (1, 4), (1, 7), (1, 9), (2, 8), (2, 24), (2048, 8 * 2048 - 1), (2048, 8 * 2048 + 1)];
+    for (n, bytes) in wrong.into_iter().chain([(0, 0), (1, 8), (2, 16), (2048, 8 * 2048)]) {
+        all.extend(NO_MINIMUMS.map(|minimum| faulty(14, 0, &headed(n, minimum, bytes))));
+    }
+    for (n, bytes) in wrong {
+        all.extend(MINIMUMS.map(|minimum| faulty(3, 0, &headed(n, minimum, bytes))));
+    }
+    all
 }
 
-const SOUND: [(u32, u32); 4] = [(10, 5), (20, 5), (30, 5), (40, 5)];
+/// Four windows for a minimum, the shortest just as long as that.
+fn sound(minimum: u32) -> [(u32, u32); 4] {
+    [(10, minimum + 4), (20, minimum), (30, minimum + 4), (40, minimum + 4)]
+}
 
 /// A window that one question of 4, 5 and 6 refuses in the place of a sound one, or two of them, of which the first counts.
-fn faulty_windows(position: usize) -> Vec<(u16, (u32, u32))> {
-    let (offset, length) = SOUND[position];
-    let mut windows = vec![(4, (offset, 0)), (5, (offset, 10_000_001 - offset)), (4, (10_000_001, 0))];
+fn faulty_windows(minimum: u32, position: usize) -> Vec<(u16, (u32, u32))> {
+    let (offset, length) = sound(minimum)[position];
+    let short = minimum - 1;
+    let mut windows = vec![(4, (offset, short)), (4, (offset, 0)), (5, (offset, 10_000_001 - offset)), (4, (10_000_001, short))];
     if position > 0 {
-        let fallen = SOUND[position - 1].0 - 1;
-        windows.extend([(6, (fallen, length)), (4, (fallen, 0)), (5, (fallen, 10_000_001 - fallen))]);
+        let fallen = sound(minimum)[position - 1].0 - 1;
+        windows.extend([(6, (fallen, length)), (4, (fallen, short)), (5, (fallen, 10_000_001 - fallen))]);
     }
     windows
 }
 
-/// Questions 4 to 6 at one window, and at two, of which the one that stands first counts, whatever the numbers are; and
-/// question 3 of the same in a file that is a byte too short or too long.
+/// Questions 4 to 6 at one window, and at two, of which the one that stands first counts, whatever the numbers are; question 3 of the
+/// same in a file that is a byte too short or too long, and question 14 of the same by no minimum, in a file of any of these lengths.
 fn faulty_plans() -> Vec<Faulty> {
     let mut all = Vec::new();
-    for i in 0..SOUND.len() {
-        for (number, window) in faulty_windows(i) {
-            let mut windows = SOUND;
-            windows[i] = window;
-            let file = file_of(12, &windows);
-            all.push(faulty(number, i, &file));
-            all.push(faulty(3, 0, &file[..file.len() - 1]));
-            all.push(faulty(3, 0, &[&file[..], &[0]].concat()));
-            for j in i + 1..SOUND.len() {
-                for (_, second) in faulty_windows(j) {
-                    windows = SOUND;
-                    windows[i] = window;
-                    windows[j] = second;
-                    all.push(faulty(number, i, &file_of(12, &windows)));
+    for minimum in [1, 5, 86_400] {
+        for i in 0..4 {
+            for (number, window) in faulty_windows(minimum, i) {
+                let mut windows = sound(minimum);
+                windows[i] = window;
+                let file = file_of(12, minimum, &windows);
+                let no_minimum = file_of(12, 86_401, &windows);
+                all.push(faulty(number, i, &file));
+                all.push(faulty(14, 0, &no_minimum));
+                for (number, file) in [(3, &file), (14, &no_minimum)] {
+                    all.push(faulty(number, 0, &file[..file.len() - 1]));
+                    all.push(faulty(number, 0, &[&file[..], &[0]].concat()));
+                }
+                for j in i + 1..4 {
+                    for (_, second) in faulty_windows(minimum, j) {
+                        windows = sound(minimum);
+                        windows[i] = window;
+                        windows[j] = second;
+                        all.push(faulty(number, i, &file_of(12, minimum, &windows)));
+                    }
                 }
             }
         }
     }
     all
+}
+
+/// Files as they were before there was a minimum, 4 bytes shorter than one is now. The first offset stands where the minimum does: the
+/// empty file is refused by 1; n too great by 2, as before; an offset that is no minimum by 14; and any other by 3.
+fn old_files() -> Vec<Faulty> {
+    let old = |number, windows: &[(u32, u32)]| faulty(number, 0, &old_file_of(12, windows));
+    let later = |offset: u32| PLAN_12.map(|window| (window.0 + offset, window.1));
+    vec![
+        old(1, &[]),
+        old(2, &vec![(5, 1); 2049]),
+        old(14, &PLAN_12),
+        old(14, &later(86_401)),
+        old(14, &vec![(0, 1); 2048]),
+        old(3, &later(1)),
+        old(3, &later(86_400)),
+        old(3, &[(5, 5)]),
+        old(3, &vec![(5, 1); 2048]),
+    ]
 }
 
 /// Every call that takes a file refuses it so, whatever the positions and the rooms are.
@@ -85,28 +130,44 @@ pub fn every_call_refuses(comparison: &mut Comparison, file: &[u8], number: u16,
         comparison.chain(file, at, 0, room).are(format_args!("chain"), first, &vec![]);
         comparison.chain(file, 0, at, room).are(format_args!("chain"), first, &vec![]);
     }
-    let accepted = file_of(12, &PLAN_12);
+    let accepted = file_of(12, 1, &PLAN_12);
     comparison.same(file, &accepted).are(format_args!("same, the first file"), first, &());
     comparison.same(&accepted, file).are(format_args!("same, the second file"), second, &());
 }
 
 pub fn faulty_files(comparison: &mut Comparison) {
-    for Faulty { file, number, position } in faulty_headers().into_iter().chain(faulty_plans()) {
+    for Faulty { file, number, position } in [faulty_headers(), faulty_plans(), old_files()].into_iter().flatten() {
         let before = file.clone();
         every_call_refuses(comparison, &file, number, position);
         assert_eq!(file, before, "a file that was only to be read");
     }
 }
 
-/// Of two faulty files the first is refused, whatever the numbers are.
+/// Files of 0 to 20 bytes with each header. Among them are plans, of no window and of one.
+pub fn short_files(comparison: &mut Comparison) {
+    for n in [0, 1, 2, 2048, 2049, 65_535] {
+        for minimum in MINIMUMS.into_iter().chain(NO_MINIMUMS) {
+            for (offset, length) in [(0, 0), (3, minimum), (3, minimum.wrapping_sub(1))] {
+                let window = [u32::to_le_bytes(offset), length.to_le_bytes()].concat();
+                let file = [headed(n, minimum, 0), window.clone(), window].concat();
+                for bytes in 0..=20 {
+                    comparison.file(&file[..bytes], Depth::Whole);
+                }
+            }
+        }
+    }
+}
+
+/// Of two faulty files the first is refused, whatever the numbers are. Of the headers every seventh is taken, some of each number.
 pub fn two_files(comparison: &mut Comparison) {
-    let single = |i: usize| faulty_windows(i).into_iter().map(move |with| (i, with));
+    let single = |i: usize| faulty_windows(5, i).into_iter().map(move |with| (i, with));
     let plans = [0, 3].into_iter().flat_map(single).map(|(i, (number, window))| {
-        let mut windows = SOUND;
+        let mut windows = sound(5);
         windows[i] = window;
-        faulty(number, i, &file_of(12, &windows))
+        faulty(number, i, &file_of(12, 5, &windows))
     });
-    let files: Vec<Faulty> = faulty_headers().into_iter().chain(plans).collect();
+    let headers = faulty_headers().into_iter().step_by(7);
+    let files: Vec<Faulty> = headers.chain(plans).chain(old_files()).collect();
     for first in &files {
         let refused = Answer::Refused(refusal(first.number, 0, first.position));
         for second in &files {
@@ -119,16 +180,17 @@ pub fn two_files(comparison: &mut Comparison) {
 fn falling_at(positions: &[usize]) -> [(u32, u32); 4] {
     [0, 1, 2, 3].map(|v| {
         let falls = positions.iter().filter(|&&at| at <= v).count() as u32;
-        (SOUND[v].0, 100 - falls - SOUND[v].0)
+        let offset = sound(5)[v].0;
+        (offset, 100 - falls - offset)
     })
 }
 
-/// Question 13, alone and twice, whatever the room is; and with any of 3 to 6, at whichever window that is, which come first.
+/// Question 13, alone and twice, whatever the room is; and with any of 14 and 3 to 6, at whichever window that is, which come first.
 pub fn falling_ends(comparison: &mut Comparison) {
     let falls: [&[usize]; 7] = [&[1], &[2], &[3], &[1, 2], &[1, 3], &[2, 3], &[1, 2, 3]];
     for falls in falls {
         let windows = falling_at(falls);
-        let file = file_of(12, &windows);
+        let file = file_of(12, 5, &windows);
         comparison.validate(&file).agree(format_args!("validate of falling ends"));
         let mut refuses = |file: &[u8], number: u16, position: usize| {
             for room in [0, 31, 32, 33] {
@@ -138,21 +200,37 @@ pub fn falling_ends(comparison: &mut Comparison) {
             }
         };
         refuses(&file, 13, falls[0]);
+        // It goes by ends alone, whatever the minimum is.
+        refuses(&file_of(12, 57, &windows), 13, falls[0]);
+        refuses(&file_of(12, 1, &windows), 13, falls[0]);
+        refuses(&file_of(12, 0, &windows), 14, 0);
         refuses(&file[..file.len() - 1], 3, 0);
         for at in 0..windows.len() {
-            for (number, window) in faulty_windows(at) {
+            for (number, window) in faulty_windows(5, at) {
                 let mut other = windows;
                 other[at] = window;
-                refuses(&file_of(12, &other), number, at);
+                refuses(&file_of(12, 5, &other), number, at);
             }
         }
     }
 }
 
-/// Accepted plans: none, one, two that touch, two that overlap, plan 12, and the same made even.
-fn sound_plans() -> [Vec<u8>; 6] {
-    let plans: [&[(u32, u32)]; 6] = [&[], &[(5, 5)], &[(0, 10), (10, 5)], &[(5, 5), (5, 5)], &PLAN_12, &PLAN_12_EVEN];
-    plans.map(|windows| file_of(12, windows))
+/// Accepted plans: none, one, two that touch, two that overlap, plan 12, the same made even, and the same by a minimum of 5; two that
+/// share 5 minutes, by 5 and by 6.
+fn sound_plans() -> Vec<Vec<u8>> {
+    let two = [(0, 10), (5, 10)];
+    let plans: [(u32, &[(u32, u32)]); 9] = [
+        (1, &[]),
+        (1, &[(5, 5)]),
+        (1, &[(0, 10), (10, 5)]),
+        (1, &[(5, 5), (5, 5)]),
+        (1, &PLAN_12),
+        (1, &PLAN_12_EVEN),
+        (5, &lengthened(&PLAN_12, 4)),
+        (5, &two),
+        (6, &two),
+    ];
+    plans.map(|(minimum, windows)| file_of(12, minimum, windows)).to_vec()
 }
 
 /// Every position of n windows, and positions past them: the next ones, those that are windows in 16, 32, 61 or 63 bits, and
@@ -165,7 +243,7 @@ fn positions(n: usize) -> Vec<usize> {
 /// Each position and each two, with every room from none to more than any answer needs.
 pub fn positions_and_rooms(comparison: &mut Comparison) {
     for file in sound_plans() {
-        let n = (file.len() - 4) / 8;
+        let n = windows_in(&file);
         for first in positions(n) {
             comparison.reach(&file, first).agree(format_args!("reach of {first}"));
             for room in 0..=n + 1 {
@@ -182,7 +260,7 @@ pub fn positions_and_rooms(comparison: &mut Comparison) {
 /// Each table and the tag file one too short, exactly fitting or one longer, in every combination.
 pub fn rooms_of_build(comparison: &mut Comparison) {
     for file in sound_plans() {
-        let n = (file.len() - 4) / 8;
+        let n = windows_in(&file);
         for choice in 0..3_usize.pow(6) {
             let room = |table: u32, entries: usize| (entries + choice / 3_usize.pow(table) % 3).saturating_sub(1);
             let rooms = [0, 1, 2, 3, 4].map(|table| room(table, n));
@@ -195,12 +273,12 @@ pub fn rooms_of_build(comparison: &mut Comparison) {
 /// The tag file alone, into every room from none to more than either form needs, and into rooms that are too little in 16 bits.
 pub fn rooms_of_tags(comparison: &mut Comparison, form: Form) {
     for file in sound_plans() {
-        let n = (file.len() - 4) / 8;
+        let n = windows_in(&file);
         for room in (0..10 * n + 12).chain([65_536, 65_536 + form.bytes() * n - n.min(1)]) {
             comparison.tag_file(form, &file, room).agree(format_args!("{form:?} tags, room for {room}"));
         }
     }
-    let longest = file_of(12, &vec![(0, 1); 2048]);
+    let longest = file_of(12, 1, &vec![(0, 1); 2048]);
     let whole = 2048 * form.bytes();
     for room in [0, whole - 1, whole, whole + 1] {
         comparison.tag_file(form, &longest, room).agree(format_args!("{form:?} tags of 2,048 windows, room for {room}"));

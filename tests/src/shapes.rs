@@ -1,9 +1,13 @@
 //! Plan files: every overlap pattern of few windows, and random plans of different shapes.
 use crate::random::Random;
 
-pub fn file_of(plan: u16, windows: &[(u32, u32)]) -> Vec<u8> {
+/// The latest end that a window may have.
+const LATEST: u32 = 10_000_000;
+
+pub fn file_of(plan: u16, minimum: u32, windows: &[(u32, u32)]) -> Vec<u8> {
     let mut file = plan.to_le_bytes().to_vec();
     file.extend((windows.len() as u16).to_le_bytes());
+    file.extend(minimum.to_le_bytes());
     for (offset, length) in windows {
         file.extend(offset.to_le_bytes());
         file.extend(length.to_le_bytes());
@@ -11,18 +15,72 @@ pub fn file_of(plan: u16, windows: &[(u32, u32)]) -> Vec<u8> {
     file
 }
 
-/// Every list of lasts of n windows, as a plan: window u begins at minute u and ends behind the minute of its last. There
-/// are n! of them, and every overlap pattern of n windows is among them.
-pub fn patterns(n: usize) -> Vec<Vec<(u32, u32)>> {
-    let mut all: Vec<Vec<(u32, u32)>> = vec![Vec::new()];
+/// How many windows the file of an accepted plan has.
+pub fn windows_in(file: &[u8]) -> usize {
+    (file.len() - 8) / 8
+}
+
+/// A file as paper 01 had it, with no minimum.
+pub fn old_file_of(plan: u16, windows: &[(u32, u32)]) -> Vec<u8> {
+    let mut file = file_of(plan, 1, windows);
+    file.drain(4..8);
+    file
+}
+
+/// Every list of lasts of n windows. There are n! of them, and every overlap pattern of n windows is that of just one.
+pub fn patterns(n: usize) -> Vec<Vec<usize>> {
+    let mut all: Vec<Vec<usize>> = vec![Vec::new()];
     for u in 0..n {
-        let longer = |windows: &Vec<(u32, u32)>| {
-            let with = |last: usize| [windows.clone(), vec![(u as u32, (last - u + 1) as u32)]].concat();
-            (u..n).map(with).collect::<Vec<_>>()
-        };
+        let longer = |lasts: &Vec<usize>| (u..n).map(|last| [&lasts[..], &[last]].concat()).collect::<Vec<_>>();
         all = all.iter().flat_map(longer).collect();
     }
     all
+}
+
+/// A list of lasts as a plan of minimum 1: window u begins at minute u and ends behind the minute of its last.
+pub fn plain(lasts: &[usize]) -> Vec<(u32, u32)> {
+    lasts.iter().enumerate().map(|(u, &last)| (u as u32, (last - u + 1) as u32)).collect()
+}
+
+/// A list of lasts as a plan of any minimum, of which the offsets rise: a window shares the minimum or more with its last, and with
+/// the one behind that a minute less or nothing. `length` chooses from the shortest to the longest length for which that is so.
+pub fn realised(lasts: &[usize], minimum: u32, offsets: &[u32], length: &mut dyn FnMut(u32, u32) -> u32) -> Vec<(u32, u32)> {
+    let window = |(u, &last): (usize, &usize)| {
+        let shortest = offsets[last] - offsets[u] + minimum;
+        let longest = offsets.get(last + 1).map_or(shortest + minimum, |behind| behind - offsets[u] + minimum - 1);
+        (offsets[u], length(shortest, longest))
+    };
+    lasts.iter().enumerate().map(window).collect()
+}
+
+/// Every window longer by as much, and where one would end too late, all of them earlier. By a minimum that is greater by as
+/// much the same pairs overlap: two that shared the minimum share it again, and two that touched share a minute less.
+pub fn lengthened(windows: &[(u32, u32)], more: u32) -> Vec<(u32, u32)> {
+    let latest = windows.iter().map(|w| w.0 + w.1).max().unwrap_or(0);
+    let earlier = (latest + more).saturating_sub(LATEST);
+    windows.iter().map(|w| (w.0 - earlier, w.1 + more)).collect()
+}
+
+/// The greatest minimum that a plan of these windows can have.
+pub fn greatest_minimum(windows: &[(u32, u32)]) -> u32 {
+    windows.iter().map(|w| w.1).min().unwrap_or(86_400).min(86_400)
+}
+
+/// A minimum, and windows for it: half of the times 1 and the windows that are given, and else the windows made longer. The
+/// minimum is then that by which the same pairs overlap, the greatest that there can be, or any.
+pub fn with_minimum(windows: Vec<(u32, u32)>, random: &mut Random) -> (u32, Vec<(u32, u32)>) {
+    if random.below(2) == 0 {
+        return (1, windows);
+    }
+    let more = random.pick(&[0, 1, 2, 4, 11, 30, 254, 255, 65_534, 65_535, 65_536, 86_398, 86_399]);
+    let longer = lengthened(&windows, more);
+    let greatest = greatest_minimum(&longer);
+    let minimum = match random.below(4) {
+        0 | 1 => more + 1,
+        2 => greatest,
+        _ => random.between(1, greatest as u64) as u32,
+    };
+    (minimum, longer)
 }
 
 /// The same offsets and the same ends, with the ends in rising order: an even plan, in which at every minute as many windows
@@ -34,14 +92,14 @@ pub fn evened(windows: &[(u32, u32)]) -> Vec<(u32, u32)> {
 }
 
 /// An even plan in which one window ends with the one ahead of it, or a minute before, where it can.
-pub fn nearly_even(windows: &[(u32, u32)], random: &mut Random) -> Vec<(u32, u32)> {
+pub fn nearly_even(windows: &[(u32, u32)], minimum: u32, random: &mut Random) -> Vec<(u32, u32)> {
     let mut windows = evened(windows);
     let n = windows.len() as u64;
     if n > 1 {
         let v = random.between(1, n - 1) as usize;
         let ahead = windows[v - 1].0 + windows[v - 1].1;
         let end = ahead - random.below(2) as u32;
-        windows[v].1 = end.saturating_sub(windows[v].0).max(1);
+        windows[v].1 = end.saturating_sub(windows[v].0).max(minimum);
     }
     windows
 }
@@ -137,10 +195,10 @@ fn mixed(n: usize, random: &mut Random) -> Vec<(u64, u64)> {
 
 /// Near the greatest end, 10,000,000.
 fn far(n: usize, random: &mut Random) -> Vec<(u64, u64)> {
-    let span = 2 * n as u64 + 10;
+    let (latest, span) = (LATEST as u64, 2 * n as u64 + 10);
     let window = |random: &mut Random| {
-        let offset = 10_000_000 - 1 - random.below(span);
-        (offset, random.between(1, (10_000_000 - offset).min(9)))
+        let offset = latest - 1 - random.below(span);
+        (offset, random.between(1, (latest - offset).min(9)))
     };
     (0..n).map(|_| window(random)).collect()
 }
