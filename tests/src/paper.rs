@@ -1,13 +1,13 @@
 //! Every case of paper 01 by name, put to the library and to the oracle: both must have the paper's number, and leave every
 //! lent byte alike. The numbers stand as the paper prints them and none is computed; the few that it does not print follow from
-//! its words: a chain of two windows, the components of a plan of one window, plan 12 twice; and from those of paper 02, Q-1,
-//! the short tags of plan 12 made even.
+//! its words: a chain of two windows, the components of a plan of one window, plan 12 twice; and from those of paper 02: the short
+//! tags of plan 12 made even, and what becomes of two and three windows as the minimum rises.
 use crate::answers::{refusal, Answer};
 use crate::compare::Comparison;
 use crate::forms::Form;
 use crate::oracle::{tag_bytes, Columns};
 use crate::refusals::every_call_refuses;
-use crate::shapes::{file_of, windows_in};
+use crate::shapes::{file_of, old_file_of, windows_in};
 use Says::*;
 
 pub const PLAN_12: [(u32, u32); 7] = [(0, 10), (2, 3), (4, 12), (9, 2), (12, 6), (17, 1), (18, 4)];
@@ -67,6 +67,11 @@ enum Says {
     ShortHandovers(usize, usize, u16),
     /// No short tags: at this position an end falls.
     Falls(usize),
+    /// Beside a plan of this minimum and these windows: the same, or not.
+    Same(u32, &'static [(u32, u32)]),
+    Different(u32, &'static [(u32, u32)]),
+    /// Of a position, the windows that overlap it.
+    Neighbours(usize, &'static [u16]),
 }
 
 pub struct Case {
@@ -77,11 +82,16 @@ pub struct Case {
 
 /// A case by a minimum of 1, by which paper 01's are as they were.
 fn case(name: &'static str, windows: &[(u32, u32)], says: Says) -> Case {
-    Case { name, file: file_of(12, 1, windows), says }
+    by(1, name, windows, says)
+}
+
+fn by(minimum: u32, name: &'static str, windows: &[(u32, u32)], says: Says) -> Case {
+    Case { name, file: file_of(12, minimum, windows), says }
 }
 
 pub fn cases() -> Vec<Case> {
-    [worked(), edges(), long_inputs(), traps(), short_tags()].into_iter().flatten().collect()
+    let papers = [worked(), edges(), long_inputs(), traps(), short_tags(), minimums(), rising_minimums(), minimums_refused()];
+    papers.into_iter().flatten().collect()
 }
 
 fn worked() -> Vec<Case> {
@@ -179,6 +189,108 @@ fn short_tags() -> Vec<Case> {
         case("an end falls by a minute", &[(0, 10), (0, 9)], Falls(1)),
         case("equal ends do not fall", &[(0, 10), (1, 9)], ShortTags(&[[12, 0, 0, 1], [12, 0, 1, 0]])),
         case("eight bytes with n = 0: no short tags, and no refusal", &[], ShortTags(&[])),
+        by(9, "an end falls by a minute, by minimum 9", &[(0, 10), (0, 9)], Falls(1)),
+        by(9, "equal ends do not fall, by minimum 9", &[(0, 10), (1, 9)], ShortTags(&[[12, 0, 0, 1], [12, 0, 1, 0]])),
+        by(9, "ends that rise, by a minimum that no two share", &[(0, 10), (2, 9)], ShortTags(&[[12, 0, 0, 0], [12, 1, 0, 0]])),
+    ]
+}
+
+/// Two windows that share 5 minutes.
+const TWO: [(u32, u32); 2] = [(0, 10), (5, 10)];
+
+/// The first and the second share 6 minutes, the second and the third 5, the first and the third 1.
+const THREE: [(u32, u32); 3] = [(0, 10), (4, 10), (9, 10)];
+
+/// Paper 02, Q-2: "Two windows overlap when they share at least that many minutes."
+fn minimums() -> Vec<Case> {
+    let longer = PLAN_12.map(|(offset, length)| (offset, length + 4));
+    let longest = vec![(0, 86_400); 2048];
+    let near: Vec<(u32, u32)> = (0..2048).map(|v| (2 * v, 100)).collect();
+    vec![
+        by(5, "two windows share 5 minutes, minimum 5: 1 handover", &TWO, Handovers(0, 1, 1, Some(&[1, 0]))),
+        by(6, "two windows share 5 minutes, minimum 6: no chain", &TWO, NoChain(0, 1)),
+        by(5, "two windows share 5 minutes, minimum 5: the listing", &TWO, Lists("12 2 1\n0 0 0 0 1 0\n1 0 0 1 0 0\n")),
+        by(6, "two windows share 5 minutes, minimum 6: the listing", &TWO, Lists("12 2 2\n0 0 0 0 0 0\n1 1 1 0 0 0\n")),
+        by(5, "two windows share 5 minutes, minimum 5: short tags", &TWO, ShortTags(&[[12, 0, 0, 1], [12, 0, 1, 0]])),
+        by(6, "two windows share 5 minutes, minimum 6: short tags", &TWO, ShortTags(&[[12, 0, 0, 0], [12, 1, 0, 0]])),
+        by(10, "two windows just as long as the minimum pass", &TWO, Begins(12, 2, 2)),
+        by(5, "a window inside another shares its length", &[(0, 20), (7, 5)], Handovers(0, 1, 1, Some(&[1, 0]))),
+        by(5, "two windows (5, 5), minimum 5: 1 handover", &[(5, 5), (5, 5)], Handovers(0, 1, 1, Some(&[1, 0]))),
+        by(5, "(0, 10) (10, 5), minimum 5, touch: two components", &[(0, 10), (10, 5)], Begins(12, 2, 2)),
+        by(5, "(0, 11) (10, 5), minimum 5, share a minute: two components", &[(0, 11), (10, 5)], Begins(12, 2, 2)),
+        // Each two share 4 minutes more than in plan 12, or have 4 minutes less between them.
+        by(5, "plan 12 with windows 4 minutes longer, minimum 5: the listing", &longer, Lists(LISTING)),
+        by(5, "the same, P 3 to 5 is 3, chain 5 4 2 3", &longer, Handovers(3, 5, 3, Some(&[5, 4, 2, 3]))),
+        by(86_400, "86,400 passes", &[(0, 86_400)], Begins(12, 1, 1)),
+        by(86_400, "86,400 with no window passes", &[], Lists("12 0 0\n")),
+        by(86_400, "2,048 windows of 86,400 minutes", &longest, Begins(12, 2048, 1)),
+        by(98, "2,048 windows that share 98 minutes with the next, minimum 98", &near, Begins(12, 2048, 1)),
+        by(99, "2,048 windows that share 98 minutes with the next, minimum 99", &near, Begins(12, 2048, 2048)),
+    ]
+}
+
+/// A chain that needs a third window once the minimum rises, and a component that falls apart.
+fn rising_minimums() -> Vec<Case> {
+    let all = "12 3 1\n0 0 0 0 2 1\n1 0 0 1 0 1\n2 0 0 1 1 1\n";
+    let in_line = "12 3 1\n0 0 0 0 2 1\n1 0 0 1 1 0\n2 1 0 2 0 0\n";
+    let apart = "12 3 2\n0 0 0 0 1 0\n1 0 0 1 0 0\n2 2 1 0 0 0\n";
+    let alone = "12 3 3\n0 0 0 0 0 0\n1 1 1 0 0 0\n2 2 2 0 0 0\n";
+    vec![
+        by(1, "three windows, minimum 1: the listing", &THREE, Lists(all)),
+        by(2, "three windows, minimum 2: the listing", &THREE, Lists(in_line)),
+        by(5, "three windows, minimum 5: the listing", &THREE, Lists(in_line)),
+        by(6, "three windows, minimum 6: the listing", &THREE, Lists(apart)),
+        by(7, "three windows, minimum 7: the listing", &THREE, Lists(alone)),
+        by(10, "three windows, minimum 10: the listing", &THREE, Lists(alone)),
+        by(1, "three windows, minimum 1: 1 handover", &THREE, Handovers(0, 2, 1, Some(&[2, 0]))),
+        by(2, "three windows, minimum 2: a third window is needed", &THREE, Handovers(0, 2, 2, Some(&[2, 1, 0]))),
+        by(5, "three windows, minimum 5: a third window is needed", &THREE, Handovers(0, 2, 2, Some(&[2, 1, 0]))),
+        by(6, "three windows, minimum 6: no chain", &THREE, NoChain(0, 2)),
+        by(1, "three windows, minimum 1: neighbours of 0", &THREE, Neighbours(0, &[1, 2])),
+        by(5, "three windows, minimum 5: neighbours of 0", &THREE, Neighbours(0, &[1])),
+        by(5, "three windows, minimum 5: neighbours of 1", &THREE, Neighbours(1, &[0, 2])),
+        by(6, "three windows, minimum 6: neighbours of 1", &THREE, Neighbours(1, &[0])),
+        by(7, "three windows, minimum 7: neighbours of 1", &THREE, Neighbours(1, &[])),
+        by(5, "three windows, minimum 5: reach of 0", &THREE, Reach(0, 3)),
+        by(6, "three windows, minimum 6: reach of 0", &THREE, Reach(0, 2)),
+        by(7, "three windows, minimum 7: reach of 0", &THREE, Reach(0, 1)),
+        by(2, "three windows, minimums 2 and 5: the same", &THREE, Same(5, &THREE)),
+        by(1, "three windows, minimums 1 and 2: not the same", &THREE, Different(2, &THREE)),
+        by(5, "three windows, minimums 5 and 6: not the same", &THREE, Different(6, &THREE)),
+        by(6, "two windows apart by minimum 6, and by touching", &TWO, Same(1, &[(0, 10), (10, 10)])),
+        by(5, "two windows, minimum 5, and the same, touching", &TWO, Different(1, &[(0, 10), (10, 10)])),
+        by(5, "two windows, minimums 5 and 6: not the same", &TWO, Different(6, &TWO)),
+        by(1, "two windows, minimums 1 and 5: the same", &TWO, Same(5, &TWO)),
+        by(1, "two empty plans, minimums 1 and 86,400: the same", &[], Same(86_400, &[])),
+    ]
+}
+
+/// "Every window is at least that long", "four bytes are 1", and 14, "a minimum outside 1 to 86,400, after 2".
+fn minimums_refused() -> Vec<Case> {
+    let file = |name, file: Vec<u8>, says| Case { name, file, says };
+    let cut = |name, minimum, bytes: usize, says| Case { name, file: file_of(12, minimum, &TWO)[..bytes].to_vec(), says };
+    vec![
+        by(11, "windows of 10 minutes, minimum 11: 4 at position 0", &TWO, Refused(4, 0)),
+        by(2, "plan 12, minimum 2: 4 at position 5", &PLAN_12, Refused(4, 5)),
+        by(5, "(5, 6) (5, 4), minimum 5: 4 at position 1", &[(5, 6), (5, 4)], Refused(4, 1)),
+        by(86_400, "86,399 minutes, minimum 86,400: 4", &[(0, 86_399)], Refused(4, 0)),
+        by(5, "length 4, minimum 5, and a falling offset together: 4", &[(5, 5), (4, 4)], Refused(4, 1)),
+        by(5, "length 4, minimum 5, and a sum of 10,000,001 together: 4", &[(9_999_997, 4)], Refused(4, 0)),
+        by(0, "minimum 0 is 14", &TWO, Refused(14, 0)),
+        by(86_401, "minimum 86,401 is 14", &TWO, Refused(14, 0)),
+        by(86_401, "minimum 86,401 is 14, also where windows are as long", &[(0, 86_401)], Refused(14, 0)),
+        by(4_294_967_295, "minimum 4,294,967,295 is 14", &TWO, Refused(14, 0)),
+        by(0, "minimum 0 is 14 where no window is", &[], Refused(14, 0)),
+        by(0, "minimum 0 is 14 where a window has length 0", &[(0, 0)], Refused(14, 0)),
+        by(0, "n 2,049 and minimum 0 is 2", &vec![(0, 1); 2049], Refused(2, 0)),
+        file("n 2,049 and minimum 0 is 2 even in a short file", vec![12, 0, 1, 8, 0, 0, 0, 0], Refused(2, 0)),
+        cut("minimum 0 is 14 in a file that is too short", 0, 23, Refused(14, 0)),
+        cut("minimum 86,401 is 14 in a file of 8 bytes", 86_401, 8, Refused(14, 0)),
+        cut("a file that is too short is 3", 5, 23, Refused(3, 0)),
+        cut("seven bytes are 1", 5, 7, Refused(1, 0)),
+        file("four bytes are 1", vec![12, 0, 0, 0], Refused(1, 0)),
+        file("plan 12 as it was before is 14", old_file_of(12, &PLAN_12), Refused(14, 0)),
+        file("a window (5, 5) as it was before is 3", old_file_of(12, &[(5, 5)]), Refused(3, 0)),
     ]
 }
 
@@ -207,6 +319,9 @@ impl Case {
             ShortTags(tags) => short_tag_file(comparison, file, tags),
             ShortHandovers(u, v, count) => short_handovers(comparison, file, (u, v), count),
             Falls(position) => falls(comparison, file, position),
+            Same(minimum, windows) => sameness(comparison, file, &file_of(13, minimum, windows), Answer::Same),
+            Different(minimum, windows) => sameness(comparison, file, &file_of(13, minimum, windows), Answer::Different),
+            Neighbours(at, near) => neighbours(comparison, file, at, near),
         }
         assert_eq!(file, &self.file, "a file that was only to be read");
     }
@@ -322,4 +437,17 @@ fn falls(comparison: &mut Comparison, file: &[u8], position: usize) {
         both.are(format_args!("short tags, room for {room}"), Answer::Refused(refusal(13, 0, position)), &vec![]);
     }
     columns(comparison, file);
+}
+
+/// In both orders.
+fn sameness(comparison: &mut Comparison, first: &[u8], second: &[u8], answer: Answer) {
+    comparison.same(first, second).are(format_args!("same"), answer, &());
+    comparison.same(second, first).are(format_args!("same, in the other order"), answer, &());
+}
+
+fn neighbours(comparison: &mut Comparison, file: &[u8], at: usize, near: &[u16]) {
+    for more in MORE {
+        let both = comparison.neighbours(file, at, near.len() + more);
+        both.are(format_args!("neighbours of {at}"), Answer::Neighbours(near.len() as u16), &near.to_vec());
+    }
 }
