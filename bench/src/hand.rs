@@ -19,29 +19,42 @@ fn two(bytes: &[u8], at: usize) -> u16 {
     u16::from_le_bytes([bytes[at], bytes[at + 1]])
 }
 
-/// Offset and length.
-fn window(pair: &[u8]) -> (u32, u32) {
-    let number = |four: &[u8]| u32::from_le_bytes(four.try_into().unwrap());
-    (number(&pair[..4]), number(&pair[4..8]))
+fn four(bytes: &[u8], at: usize) -> u32 {
+    u32::from_le_bytes(bytes[at..at + 4].try_into().unwrap())
 }
 
-/// The plan number and the pairs of a file that meets no refusal.
-fn validate(file: &[u8]) -> Result<(u16, &[u8]), Refusal> {
-    if file.len() < 4 {
+/// Offset and length.
+fn window(pair: &[u8]) -> (u32, u32) {
+    (four(pair, 0), four(pair, 4))
+}
+
+/// A file that meets no refusal.
+struct Plan<'a> {
+    number: u16,
+    minimum: u32,
+    pairs: &'a [u8],
+}
+
+fn validate(file: &[u8]) -> Result<Plan<'_>, Refusal> {
+    if file.len() < 8 {
         return no(1, 0, 0);
     }
     let windows = two(file, 2) as usize;
     if windows > MOST {
         return no(2, 0, 0);
     }
-    let (head, pairs) = file.split_at(4);
+    let (head, pairs) = file.split_at(8);
+    let minimum = four(head, 4);
+    if !(1..=86_400).contains(&minimum) {
+        return no(14, 0, 0);
+    }
     if pairs.len() != 8 * windows {
         return no(3, 0, 0);
     }
     let mut before = 0;
     for (position, pair) in pairs.chunks_exact(8).enumerate() {
         let (offset, length) = window(pair);
-        if length < 1 {
+        if length < minimum {
             return no(4, 0, position);
         }
         if offset as u64 + length as u64 > 10_000_000 {
@@ -52,7 +65,7 @@ fn validate(file: &[u8]) -> Result<(u16, &[u8]), Refusal> {
         }
         before = offset;
     }
-    Ok((two(head, 0), pairs))
+    Ok(Plan { number: two(head, 0), minimum, pairs })
 }
 
 struct Spans {
@@ -71,10 +84,11 @@ fn spans(pairs: &[u8]) -> Spans {
     spans
 }
 
-fn find_parents(offsets: &[u32], ends: &[u32], parents: &mut [u16]) {
+fn find_parents(minimum: u32, offsets: &[u32], ends: &[u32], parents: &mut [u16]) {
     let mut parent = 0;
     for (v, (&offset, entry)) in offsets.iter().zip(parents).enumerate() {
-        while parent < v && ends[parent] <= offset {
+        let needed = offset + minimum;
+        while parent < v && ends[parent] < needed {
             parent += 1;
         }
         *entry = parent as u16;
@@ -116,9 +130,11 @@ fn find_ranks(parents: &[u16], ranks: &mut [u16]) {
     }
 }
 
-fn rank_lasts(offsets: &[u32], ends: &[u32], ranks: &[u16], last_ranks: &mut [u16]) {
+fn rank_lasts(minimum: u32, offsets: &[u32], ends: &[u32], ranks: &[u16], last_ranks: &mut [u16]) {
     for (v, (&end, entry)) in ends.iter().zip(last_ranks).enumerate() {
-        let later = offsets[v..].partition_point(|&offset| offset < end);
+        // With `<=` each step of the search takes an instruction more.
+        let bound = end - minimum + 1;
+        let later = offsets[v..].partition_point(|&offset| offset < bound);
         *entry = ranks[v + later - 1];
     }
 }
@@ -137,7 +153,7 @@ fn write_tags(plan: u16, tables: [&[u16]; 4], tags: &mut [u8]) {
 #[no_mangle]
 #[inline(never)]
 pub fn hand_build(file: &[u8], tables: [&mut [u16]; 5], tags: &mut [u8]) -> Result<(u16, u16, u16), Refusal> {
-    let (plan, pairs) = validate(file)?;
+    let Plan { number, minimum, pairs } = validate(file)?;
     let n = pairs.len() / 8;
     if tables.iter().any(|table| table.len() < n) || tags.len() < 10 * n {
         return no(8, 0, 0);
@@ -145,12 +161,12 @@ pub fn hand_build(file: &[u8], tables: [&mut [u16]; 5], tags: &mut [u8]) -> Resu
     let [parents, components, depths, ranks, last_ranks] = tables.map(|table| &mut table[..n]);
     let spans = spans(pairs);
     let (offsets, ends) = (&spans.offsets[..n], &spans.ends[..n]);
-    find_parents(offsets, ends, parents);
+    find_parents(minimum, offsets, ends, parents);
     let count = number_levels(parents, components, depths);
     find_ranks(parents, ranks);
-    rank_lasts(offsets, ends, ranks, last_ranks);
-    write_tags(plan, [components, depths, ranks, last_ranks], tags);
-    Ok((plan, n as u16, count))
+    rank_lasts(minimum, offsets, ends, ranks, last_ranks);
+    write_tags(number, [components, depths, ranks, last_ranks], tags);
+    Ok((number, n as u16, count))
 }
 
 /// The first window that ends before the one ahead of it.
@@ -173,7 +189,7 @@ fn write_short_tags(plan: u16, tables: [&[u16]; 3], tags: &mut [u8]) {
 #[no_mangle]
 #[inline(never)]
 pub fn hand_short_tags(file: &[u8], tags: &mut [u8]) -> Result<(u16, u16, u16), Refusal> {
-    let (plan, pairs) = validate(file)?;
+    let Plan { number, minimum, pairs } = validate(file)?;
     let n = pairs.len() / 8;
     let spans = spans(pairs);
     let (offsets, ends) = (&spans.offsets[..n], &spans.ends[..n]);
@@ -185,11 +201,11 @@ pub fn hand_short_tags(file: &[u8], tags: &mut [u8]) -> Result<(u16, u16, u16), 
     }
     let mut tables = [[0; MOST]; 4];
     let [parents, components, depths, ranks] = tables.each_mut().map(|table| &mut table[..n]);
-    find_parents(offsets, ends, parents);
+    find_parents(minimum, offsets, ends, parents);
     let count = number_levels(parents, components, depths);
     find_ranks(parents, ranks);
-    write_short_tags(plan, [components, depths, ranks], tags);
-    Ok((plan, n as u16, count))
+    write_short_tags(number, [components, depths, ranks], tags);
+    Ok((number, n as u16, count))
 }
 
 #[derive(Clone, Copy, PartialEq)]
@@ -286,19 +302,11 @@ pub fn hand_short_pair(first: &[u8], second: &[u8]) -> Result<Option<u16>, Refus
     Ok(Some(if u.rank < v.rank { levels + 1 } else { levels }))
 }
 
-fn overlap(u: (u32, u32), v: (u32, u32)) -> bool {
-    max(u.0, v.0) < min(u.0 + u.1, v.0 + v.1)
-}
-
-fn window_at(pairs: &[u8], v: usize) -> (u32, u32) {
-    window(&pairs[8 * v..8 * v + 8])
-}
-
 /// How many entries were written, or none where there is no chain.
 #[no_mangle]
 #[inline(never)]
 pub fn hand_chain(file: &[u8], first: usize, second: usize, out: &mut [u16]) -> Result<Option<u16>, Refusal> {
-    let (_, pairs) = validate(file)?;
+    let Plan { minimum, pairs, .. } = validate(file)?;
     let n = pairs.len() / 8;
     if first >= n {
         return no(7, 0, 0);
@@ -308,9 +316,9 @@ pub fn hand_chain(file: &[u8], first: usize, second: usize, out: &mut [u16]) -> 
     }
     let spans = spans(pairs);
     let mut parents = [0; MOST];
-    find_parents(&spans.offsets[..n], &spans.ends[..n], &mut parents[..n]);
+    find_parents(minimum, &spans.offsets[..n], &spans.ends[..n], &mut parents[..n]);
     let (earlier, later) = (min(first, second), max(first, second));
-    let Some(steps) = steps_before(pairs, &parents, earlier, later) else { return Ok(None) };
+    let Some(steps) = steps_before(minimum, &spans, &parents, earlier, later) else { return Ok(None) };
     if out.len() <= steps {
         return no(8, 0, 0);
     }
@@ -324,13 +332,13 @@ pub fn hand_chain(file: &[u8], first: usize, second: usize, out: &mut [u16]) -> 
 }
 
 /// How many windows stand before the earlier one on the chain.
-fn steps_before(pairs: &[u8], parents: &[u16; MOST], earlier: usize, later: usize) -> Option<usize> {
+fn steps_before(minimum: u32, spans: &Spans, parents: &[u16; MOST], earlier: usize, later: usize) -> Option<usize> {
     if earlier == later {
         return Some(0);
     }
-    let target = window_at(pairs, earlier);
+    let latest = spans.ends[earlier] - minimum;
     let (mut at, mut steps) = (later, 1);
-    while at > earlier && !overlap(target, window_at(pairs, at)) {
+    while at > earlier && spans.offsets[at] > latest {
         let parent = parents[at] as usize;
         if parent == at {
             return None;
@@ -345,14 +353,20 @@ fn steps_before(pairs: &[u8], parents: &[u16; MOST], earlier: usize, later: usiz
 #[no_mangle]
 #[inline(never)]
 pub fn hand_neighbours(file: &[u8], at: usize, out: &mut [u16]) -> Result<u16, Refusal> {
-    let (_, pairs) = validate(file)?;
+    let Plan { minimum, pairs, .. } = validate(file)?;
     if at >= pairs.len() / 8 {
         return no(7, 0, 0);
     }
-    let own = window_at(pairs, at);
+    // Windows are at least as long as the minimum, so two overlap when each begins so long before the other's end.
+    let (own_offset, own_length) = window(&pairs[8 * at..8 * at + 8]);
+    let (latest, needed) = (own_offset + own_length - minimum, own_offset + minimum);
     let found = || {
+        let near = move |pair: &[u8]| {
+            let (offset, length) = window(pair);
+            (offset <= latest) & (needed <= offset + length)
+        };
         let others = pairs.chunks_exact(8).enumerate();
-        others.filter(move |&(v, pair)| v != at && overlap(own, window(pair))).map(|(v, _)| v as u16)
+        others.filter(move |&(v, pair)| v != at && near(pair)).map(|(v, _)| v as u16)
     };
     let count = found().count();
     if out.len() < count {

@@ -107,7 +107,7 @@ fn row(case: &Case, call: &str, ours: f64, hand: f64) {
 
 /// Answers with how many times longer the graph library's search takes than a pair call.
 fn measure(case: &Case) -> f64 {
-    let graph = Graph::of(&case.windows);
+    let graph = Graph::of(case.minimum, &case.windows);
     let library = Library::of(&graph);
     compare(case, &graph, &library);
     measure_build(case);

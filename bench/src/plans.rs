@@ -12,9 +12,11 @@ pub enum Shape {
     /// The offsets and the ends of a dense or a sparse plan, with the ends in rising order: as many pairs overlap, and no end falls.
     EvenDense,
     EvenSparse,
+    /// A sparse plan with every window 29 minutes longer and a minimum of 30: the same pairs overlap.
+    SparseBy30,
 }
 
-pub const SHAPES: [Shape; 3] = [Shape::Dense, Shape::Sparse, Shape::Staircase];
+pub const SHAPES: [Shape; 4] = [Shape::Dense, Shape::Sparse, Shape::Staircase, Shape::SparseBy30];
 
 /// Those of which there are short tags.
 pub const EVEN_SHAPES: [Shape; 3] = [Shape::EvenDense, Shape::EvenSparse, Shape::Staircase];
@@ -27,6 +29,14 @@ impl Shape {
             Shape::Staircase => "staircase",
             Shape::EvenDense => "even-dense",
             Shape::EvenSparse => "even-sparse",
+            Shape::SparseBy30 => "sparse-by-30",
+        }
+    }
+
+    fn minimum(self) -> u32 {
+        match self {
+            Shape::SparseBy30 => 30,
+            _ => 1,
         }
     }
 }
@@ -37,6 +47,7 @@ pub const PLANS: usize = 16;
 pub struct Case {
     pub name: &'static str,
     pub n: usize,
+    pub minimum: u32,
     /// The windows of the first plan, which the searches go through.
     pub windows: Vec<(u32, u32)>,
     pub files: Vec<Vec<u8>>,
@@ -69,13 +80,15 @@ fn windows_of(shape: Shape, n: usize, random: &mut Random) -> Vec<(u32, u32)> {
         Shape::Staircase => (0..size).map(|i| (10 * i, 21 + random.below(9))).collect(),
         Shape::EvenDense => return evened(windows_of(Shape::Dense, n, random)),
         Shape::EvenSparse => return evened(windows_of(Shape::Sparse, n, random)),
+        Shape::SparseBy30 => return windows_of(Shape::Sparse, n, random).into_iter().map(|w| (w.0, w.1 + 29)).collect(),
     };
     windows.sort_by_key(|window| window.0);
     windows
 }
 
-fn file_of(windows: &[(u32, u32)]) -> Vec<u8> {
+fn file_of(minimum: u32, windows: &[(u32, u32)]) -> Vec<u8> {
     let mut file = vec![12, 0, (windows.len() % 256) as u8, (windows.len() / 256) as u8];
+    file.extend(minimum.to_le_bytes());
     for (offset, length) in windows {
         file.extend(offset.to_le_bytes());
         file.extend(length.to_le_bytes());
@@ -89,8 +102,9 @@ impl Case {
         let plans: Vec<Vec<(u32, u32)>> = (0..PLANS).map(|_| windows_of(shape, n, &mut random)).collect();
         let mut position = || random.below(n as u32) as usize;
         let queries = (0..1024).map(|_| (position(), position())).collect();
-        let files = plans.iter().map(|windows| file_of(windows)).collect();
-        Case { name: shape.name(), n, windows: plans[0].clone(), files, queries }
+        let minimum = shape.minimum();
+        let files = plans.iter().map(|windows| file_of(minimum, windows)).collect();
+        Case { name: shape.name(), n, minimum, windows: plans[0].clone(), files, queries }
     }
 }
 

@@ -6,11 +6,11 @@ pub struct Graph {
 }
 
 impl Graph {
-    pub fn of(windows: &[(u32, u32)]) -> Graph {
+    pub fn of(minimum: u32, windows: &[(u32, u32)]) -> Graph {
         let n = windows.len();
         let overlap = |u: usize, v: usize| {
             let ((a, b), (c, d)) = (windows[u], windows[v]);
-            u != v && a.max(c) < (a + b).min(c + d)
+            u != v && a.max(c) + minimum <= (a + b).min(c + d)
         };
         let (mut starts, mut targets) = (vec![0], Vec::new());
         for u in 0..n {
