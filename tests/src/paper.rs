@@ -221,6 +221,10 @@ fn minimums() -> Vec<Case> {
         // Each two share 4 minutes more than in plan 12, or have 4 minutes less between them.
         by(5, "plan 12 with windows 4 minutes longer, minimum 5: the listing", &longer, Lists(LISTING)),
         by(5, "the same, P 3 to 5 is 3, chain 5 4 2 3", &longer, Handovers(3, 5, 3, Some(&[5, 4, 2, 3]))),
+        by(300, "two windows share 300 minutes, minimum 300: 1 handover", &[(0, 600), (300, 600)], Handovers(0, 1, 1, Some(&[1, 0]))),
+        by(301, "two windows share 300 minutes, minimum 301: no chain", &[(0, 600), (300, 600)], NoChain(0, 1)),
+        by(86_400, "two windows share 86,400 minutes: 1 handover", &[(0, 90_000), (3_600, 90_000)], Handovers(0, 1, 1, Some(&[1, 0]))),
+        by(86_400, "two windows share 86,399 minutes: no chain", &[(0, 90_000), (3_601, 90_000)], NoChain(0, 1)),
         by(86_400, "86,400 passes", &[(0, 86_400)], Begins(12, 1, 1)),
         by(86_400, "86,400 with no window passes", &[], Lists("12 0 0\n")),
         by(86_400, "2,048 windows of 86,400 minutes", &longest, Begins(12, 2048, 1)),
