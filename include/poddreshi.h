@@ -19,7 +19,7 @@
  *
  * A PLAN FILE begins with 8 bytes, each number with its lowest byte first: the plan number (2), the number of windows n (2) and the
  * minimum handover in minutes (4). Two different windows OVERLAP when they share at least the plan's minimum of minutes, and parents,
- * lasts, chains, neighbours, sameness and tags all go by that. A file from before version 2.0.0, which has no minimum, is always refused.
+ * lasts, chains, neighbours, sameness and tags all go by that. A file that was accepted before version 2.0.0 is always refused.
  *
  * SHORT TAGS are for even plans: those in which no window ends before the one ahead of it in the file (equal ends pass). Two short
  * tags of such a plan give the least number of handovers, as its long ones do; of another plan they may not, and none are written.
