@@ -1,7 +1,7 @@
 -- Q-2: the laws of overlap with a minimum, the plans of before, and three windows of which one is shorter than the minimum.
 -- Assumes nothing.
-use Prim.Native.Nat.{ℕ, _+_}
-use mathlib.Core.{Bool.true, Bool.false, Path._≡_, Path.refl, Path.sym, Path._∙_, Logic._↔_, List.List, List.[], List._∷_}
+use Prim.Native.Nat.{_+_}
+use mathlib.Core.{Bool.true, Bool.false, Path._≡_, Path.refl, Path.sym, Path._∙_, List.List, List.[], List._∷_}
 use native.Mathlib.Omega.{arith}
 use borrow.Author.Tests.{leb-true, le-leb}
 use Rattle.sequences.proofs.Tests.{true-false-absurd}
@@ -28,6 +28,9 @@ minimum-overlap file ok =
         λ h. law ∙ le-leb (windowAt file v .offset + minimumHandover file) (endOf (windowAt file u)) h,
       );
       ordered = interval-order file ok;
+      long = accepted-sound file ok .long;
+      least = accepted-sound file ok .least;
+      most = accepted-sound file ok .most;
     }
 
 pub minimum-one : MinimumOne

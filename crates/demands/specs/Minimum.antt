@@ -28,6 +28,10 @@ pub record Overlapping (file : List ℕ) : Type 0 where
       (u v : ℕ) → u < v → v < windowCount file →
       (overlaps file u v ≡ true) ↔ (windowAt file v .offset + minimumHandover file ≤ endOf (windowAt file u))
   pub ordered : IntervalOrder (windowCount file) (overlaps file)
+  -- "Every window is at least that long", and 14, "a minimum outside 1 to 86,400" is turned away.
+  pub long : (v : ℕ) → v < windowCount file → minimumHandover file ≤ windowAt file v .length
+  pub least : 1 ≤ minimumHandover file
+  pub most : minimumHandover file ≤ 86400
 
 abbrev pub MinimumOverlaps : Type 0
 MinimumOverlaps = (file : List ℕ) → AcceptedPlan file → Overlapping file

@@ -1,4 +1,4 @@
-// The plan file: its windows read and written, and whether it is accepted.
+// The plan file: its minimum handover, its windows read and written, and whether it is accepted.
 mod figures;
 mod header;
 mod questions;
