@@ -21,8 +21,8 @@ fn stair(position: usize) -> Window {
     }
 }
 
-// A plan that names so many windows and this minimum. It has the windows given, which stand in the text from a place on, and behind them, as
-// far as there is room, a staircase.
+// A plan that names so many windows and this minimum. It has the windows given, which stand in the text from a place on, and behind
+// them, as far as there is room, a staircase.
 pub(crate) fn put_plan(
     file: &mut [u8],
     windows: u16,

@@ -114,7 +114,8 @@ cases-hold = tests-hold cases cases-pass
 
 -- Q-2's cases pass, and so they hold.
 minimum-cases-pass : tests minimumCases ≡ true
-unfolding definitions meaning allYes componentCount climb walk chainOf chainBetween three equals minimumCases tests test found sameOutcome sameList
+unfolding definitions meaning allYes componentCount climb walk chainOf chainBetween three equals minimumCases tests test found
+    sameOutcome sameList
 minimum-cases-pass = refl
 
 pub minimum-cases-hold : MinimumCasesHold

@@ -11,7 +11,7 @@ use Rattle.plan.specs.File.{windowCount, minimumHandover, windowAt, endOf}
 use Rattle.plan.specs.Overlap.{boundOf}
 use Rattle.plan.specs.Validation.{greatestCount, AcceptedPlan}
 use Rattle.plan.specs.AcceptedWindows.{AcceptedWindows}
-use Rattle.plan.proofs.Counted.{windows-few, bound-differs, bound-fits}
+use Rattle.plan.proofs.Counted.{windows-few, minimum-within, bound-fits}
 use Rattle.minutes.specs.Tables.{offsetAt, boundAt}
 use Rattle.minutes.specs.Passes.{Prepared}
 
@@ -20,11 +20,11 @@ unfolding offsetAt
 offset-read file v w same = ap (λ (x : Window). x .offset) same
 
 -- The end and the minimum that were read: neither difference lies below 0, and what they give is the bound, which fits 32 bits.
-module _ (file : List ℕ) (ok : AcceptedPlan file) (v : ℕ) (h : v < windowCount file) (w : Window) (end minimum : ℕ) (same : w ≡ windowAt file v)
-    (ends : end ≡ endOf w) (read : minimum ≡ minimumHandover file) where
+module _ (file : List ℕ) (ok : AcceptedPlan file) (v : ℕ) (h : v < windowCount file) (w : Window) (end minimum : ℕ)
+    (same : w ≡ windowAt file v) (ends : end ≡ endOf w) (read : minimum ≡ minimumHandover file) where
   pub bound-formed : (1 ≤ minimum) × (minimum - 1 ≤ end) × (end - (minimum - 1) < 4294967296)
   unfolding boundOf
-  bound-formed = rw (ends, same, read) (bound-differs file ok v h .0, bound-differs file ok v h .1, bound-fits file ok v h)
+  bound-formed = rw (ends, same, read) (minimum-within file ok v h .0, minimum-within file ok v h .1, bound-fits file ok v h)
 
   pub bound-read : end - (minimum - 1) ≡ boundAt file v
   unfolding boundAt boundOf

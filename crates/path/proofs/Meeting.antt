@@ -14,7 +14,8 @@ module _ (file : List ℕ) (ok : AcceptedPlan file) (u v : ℕ) where
   pub meets-itself : u ≡ v → false ≡ overlaps file u v
   meets-itself e = rw e (sym (interval-order file ok .irreflexive v))
 
-  module _ (r : Bool) (m : ℕ) (a b : Window) (read : m ≡ minimumHandover file) (first : a ≡ windowAt file u) (second : b ≡ windowAt file v) where
+  module _ (r : Bool) (m : ℕ) (a b : Window) (read : m ≡ minimumHandover file) (first : a ≡ windowAt file u)
+      (second : b ≡ windowAt file v) where
     pub meets-later : u < v → v < windowCount file → r ≡ overlapInOrder m a b → r ≡ overlaps file u v
     meets-later before within e = e ∙ rw (read, first, second) (sym (overlaps-in-order file ok u v before within))
 

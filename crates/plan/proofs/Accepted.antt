@@ -12,8 +12,8 @@ use Rattle.refusals.specs.{declared.Refusal.Refusal, Question.Question, Questio
 use Rattle.refusals.proofs.Question.{all-first, first-all, all-member, all-append, append-left, append-right, all-each, each-all}
 use Rattle.plan.specs.declared.questions.Validation.the-variants.{Accepted, Refused}
 use Rattle.plan.specs.File.{headerLength, fileLength, planNumber, windowCount, minimumHandover, windowAt, endOf}
-use Rattle.plan.specs.Validation.{greatestCount, greatestMinimum, greatestEnd, offsetBefore, windowQuestions, fileQuestions, planQuestions}
-use Rattle.plan.specs.Validation.{AcceptedPlan, validateAnswerOf}
+use Rattle.plan.specs.Validation.{greatestCount, greatestMinimum, greatestEnd, offsetBefore, windowQuestions, fileQuestions}
+use Rattle.plan.specs.Validation.{planQuestions, AcceptedPlan, validateAnswerOf}
 use Rattle.plan.proofs.Validation.{windowsAsked}
 
 -- Acceptance is what `validate` answers.
@@ -57,7 +57,8 @@ accepted-sound file ok =
 pub sound-accepted : (file : List ℕ) → Sound file → AcceptedPlan file
 unfolding planQuestions fileQuestions windowQuestions question allYes
 sound-accepted file s =
-    let n = windowCount file in let m = minimumHandover file in all-append (fileQuestions file) (each (windowsAsked file) 0 n) ∙ and-intro (allYes (fileQuestions file)) _
+    let n = windowCount file in let m = minimumHandover file in
+    all-append (fileQuestions file) (each (windowsAsked file) 0 n) ∙ and-intro (allYes (fileQuestions file)) _
     (rw (
       le-leb headerLength (length file) (omega (arith, s .whole)),
       le-leb n greatestCount (s .few),

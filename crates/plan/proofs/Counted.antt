@@ -1,6 +1,6 @@
 -- What is known of an accepted plan's file by the number of its windows, and that a validation hands it on; and where each of its
 -- windows lies, which whoever reads windows cites.
--- Vocabulary: windows-few, windows-order, validated-windows, window-within, bound-differs, bound-fits, own-offset.
+-- Vocabulary: windows-few, windows-order, validated-windows, window-within, minimum-within, bound-fits, own-offset.
 -- Assumes nothing.
 use Prim.Native.Nat.{ℕ, _+_, _-_, _≤_, _<_}
 use mathlib.Core.{Path._≡_, Path.sym, Path._∙_, List.List}
@@ -36,10 +36,10 @@ module _ (file : List ℕ) (ok : AcceptedPlan file) (v : ℕ) (h : v < windowCou
   pub window-within : (windowPlace v + windowLength ≤ length file) × (v < greatestCount)
   window-within = (omega (arith, accepted-sound file ok .whole), omega (arith, accepted-sound file ok .few))
 
-  -- Its bound is no difference below 0, and fits 32 bits,
-  pub bound-differs : (1 ≤ minimumHandover file) × (minimumHandover file - 1 ≤ endOf (windowAt file v))
+  -- The minimum is at least 1 and not past its end, so that its bound is no difference below 0; the bound fits 32 bits,
+  pub minimum-within : (1 ≤ minimumHandover file) × (minimumHandover file - 1 ≤ endOf (windowAt file v))
   unfolding endOf
-  bound-differs = (accepted-sound file ok .least, omega (arith, accepted-sound file ok .long v h))
+  minimum-within = (accepted-sound file ok .least, omega (arith, accepted-sound file ok .long v h))
 
   pub bound-fits : boundOf (minimumHandover file) (windowAt file v) < 4294967296
   unfolding boundOf

@@ -96,13 +96,16 @@ pub overlaps-bound : (file : List ℕ) → AcceptedPlan file → (u v : ℕ) →
     overlaps file u v ≡ ltb (windowAt file v .offset) (boundOf (minimumHandover file) (windowAt file u))
 unfolding overlapInOrder boundOf
 overlaps-bound file ok u v before within =
-    let least = accepted-sound file ok .least in let a = windowAt file u in let o = windowAt file v .offset in let m = minimumHandover file in
+    let least = accepted-sound file ok .least in let m = minimumHandover file in
+    let a = windowAt file u in let o = windowAt file v .offset in
     overlaps-in-order file ok u v before within
-    ∙ iff-equal (leb (o + m) (endOf a)) (ltb o (boundOf m a)) (λ t. lt-ltb o (boundOf m a) (omega (arith, least, leb-true (o + m) (endOf a) t)))
+    ∙ iff-equal (leb (o + m) (endOf a)) (ltb o (boundOf m a))
+    (λ t. lt-ltb o (boundOf m a) (omega (arith, least, leb-true (o + m) (endOf a) t)))
     (λ t. le-leb (o + m) (endOf a) (omega (arith, least, ltb-true o (boundOf m a) t)))
 
 -- Windows of an accepted plan that touch do not overlap: end of u equal to offset of v is no minute shared.
-pub touching-apart : (file : List ℕ) → AcceptedPlan file → (u v : ℕ) → endOf (windowAt file u) ≡ windowAt file v .offset → overlaps file u v ≡ false
+pub touching-apart : (file : List ℕ) → AcceptedPlan file → (u v : ℕ) → endOf (windowAt file u) ≡ windowAt file v .offset →
+    overlaps file u v ≡ false
 touching-apart file ok u v e =
     let least = accepted-sound file ok .least in
     ⊎-elim (λ t. absurd (omega (arith, least, overlaps-minimum file u v t .1, shared-minutes (windowAt file u) (windowAt file v)))) (λ t. t)

@@ -25,8 +25,9 @@ file = fileOf 12 1 (window 0 10 ∷ window 2 3 ∷ window 4 12 ∷ window 9 2 �
 
 -- What a computation on the file opens.
 unfoldable pub meaning : Unit {0}
-unfolding definitions file fileOf flatMap headerBytes windowBytes bytes16 bytes32 le16 le32 question about each firstNo
-    planNumber windowCount minimumHandover windowOf windowAt endOf covers sharedMinutes sharing overlaps offsetBefore windowQuestions fileQuestions planQuestions validateAnswerOf
+unfolding definitions file fileOf flatMap headerBytes windowBytes bytes16 bytes32 le16 le32 question about each firstNo planNumber
+    windowCount minimumHandover windowOf windowAt endOf covers sharedMinutes sharing overlaps offsetBefore windowQuestions fileQuestions
+    planQuestions validateAnswerOf
 meaning = tt
 
 pub plan-12-accepted : validateAnswerOf file ≡ Accepted 12 7
@@ -64,7 +65,8 @@ unfolding meaning
 minimum-reached = (refl, refl)
 
 -- How overlap is computed says the same, and so does the bound that the searches form.
-pub minimum-computed : (overlapInOrder 5 (window 0 10) (window 5 10) ∷ overlapInOrder 6 (window 0 10) (window 5 10) ∷ [] ≡ true ∷ false ∷ [])
+pub minimum-computed :
+    (overlapInOrder 5 (window 0 10) (window 5 10) ∷ overlapInOrder 6 (window 0 10) (window 5 10) ∷ [] ≡ true ∷ false ∷ [])
     × (boundOf 1 (window 0 10) ∷ boundOf 5 (window 0 10) ∷ boundOf 10 (window 0 10) ∷ [] ≡ 10 ∷ 6 ∷ 1 ∷ [])
 unfolding meaning overlapInOrder boundOf
 minimum-computed = (refl, refl)

@@ -12,8 +12,10 @@ use Rattle.refusals.specs.Question.{Question, refusalBy, refusalAbout, question
 use Rattle.refusals.proofs.Question.{Asking, asking-start, asking-turn, asking-refused, asking-end}
 use Rattle.plan.specs.declared.windows.Window.{Window}
 use Rattle.plan.specs.declared.questions.Validation.{Validation, the-variants.Accepted, the-variants.Refused}
-use Rattle.plan.specs.File.{headerLength, windowLength, fileLength, windowPlace, planNumber, windowCount, minimumHandover, windowOf, windowAt, endOf}
-use Rattle.plan.specs.Validation.{greatestCount, greatestEnd, minimumPasses, offsetBefore, windowQuestions, fileQuestions, planQuestions, validateAnswerOf}
+use Rattle.plan.specs.File.{headerLength, windowLength, fileLength, windowPlace, planNumber, windowCount, minimumHandover}
+use Rattle.plan.specs.File.{windowOf, windowAt, endOf}
+use Rattle.plan.specs.Validation.{greatestCount, greatestEnd, minimumPasses, offsetBefore, windowQuestions, fileQuestions}
+use Rattle.plan.specs.Validation.{planQuestions, validateAnswerOf}
 
 -- The window in the eight-byte part from the middle of the file is the window at its position.
 pub window-at : (file : List ℕ) (v place : ℕ) (w : Window) → place ≡ windowPlace v →

@@ -15,8 +15,8 @@ use Rattle.wire.proofs.LittleEndian.{placed-behind, placed-short}
 use Rattle.refusals.specs.Question.{question, about, each, allYes}
 use Rattle.refusals.proofs.Question.{all-append, all-about}
 use Rattle.plan.specs.declared.windows.Window.{Window}
-use Rattle.plan.specs.File.{headerLength, windowLength, fileLength, windowPlace, planNumber, windowCount, minimumHandover, windowOf, windowAt}
-use Rattle.plan.specs.File.{headerBytes, windowBytes, fileOf}
+use Rattle.plan.specs.File.{headerLength, windowLength, fileLength, windowPlace, planNumber, windowCount, minimumHandover}
+use Rattle.plan.specs.File.{windowOf, windowAt, headerBytes, windowBytes, fileOf}
 use Rattle.plan.specs.Validation.{greatestCount, minimumPasses, offsetBefore, windowQuestions, fileQuestions, planQuestions}
 use Rattle.plan.proofs.Validation.{askedWith, windowsAsked}
 
@@ -86,16 +86,19 @@ window-more : (file : List ℕ) (minimum v : ℕ) (w : Window) (later : List Win
     (allYes (askedWith minimum file v) && windowsPass minimum (offsetBefore file (suc v)) later)
     ≡ (allYes (windowQuestions minimum (offsetBefore file v) w) && windowsPass minimum (w .offset) later)
 unfolding offsetBefore
-window-more file minimum v w later here = let next : offsetBefore file (suc v) ≡ w .offset = ap (λ (x : Window). x .offset) here in rw (next, here)
+window-more file minimum v w later here =
+    let next : offsetBefore file (suc v) ≡ w .offset = ap (λ (x : Window). x .offset) here in rw (next, here)
 
 -- The questions of a file's windows from v on, where they are those of a list.
-windows-asked : (file : List ℕ) (minimum v : ℕ) (windows : List Window) (d : Window) → ((i : ℕ) → i < length windows → windowAt file (v + i) ≡ getD windows i d) →
+windows-asked : (file : List ℕ) (minimum v : ℕ) (windows : List Window) (d : Window) →
+    ((i : ℕ) → i < length windows → windowAt file (v + i) ≡ getD windows i d) →
     allYes (each (askedWith minimum file) v (length windows)) ≡ windowsPass minimum (offsetBefore file v) windows
 unfolding windowsPass each allYes
 windows-asked file minimum v [] d reads = refl
 windows-asked file minimum v (w ∷ later) d reads =
     let stay : v + 0 ≡ v = omega arith in let here : windowAt file v ≡ w = rw stay at (reads 0 (omega arith)) in
-    let rest = windows-asked file minimum (suc v) later d (λ i h. let on : suc v + i ≡ v + suc i = omega arith in rw on (reads (suc i) (omega arith))) in
+    let rest = windows-asked file minimum (suc v) later d
+    (λ i h. let on : suc v + i ≡ v + suc i = omega arith in rw on (reads (suc i) (omega arith))) in
     all-append (about v (askedWith minimum file v)) (each (askedWith minimum file) (suc v) (length later))
     ∙ rw (all-about v (askedWith minimum file v), rest) (window-more file minimum v w later here)
 

@@ -66,6 +66,6 @@ returns c = search needs
 
 pub put-plan-spec : {M : Type 1} → statement M
 put-plan-spec =
-    tie.close (tie.spec Inv-loop μ-loop write-u16-requires write-u16-requires-2 write-u32-requires loop-holds stair-requires window-at-requires
-    next-word-requires next-word-requires-2 cast-window-place window-place-requires write-window-requires add-position loop-less loop-again
-    same-length returns)
+    tie.close (tie.spec Inv-loop μ-loop write-u16-requires write-u16-requires-2 write-u32-requires loop-holds stair-requires
+    window-at-requires next-word-requires next-word-requires-2 cast-window-place window-place-requires write-window-requires add-position
+    loop-less loop-again same-length returns)

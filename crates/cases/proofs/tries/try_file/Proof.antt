@@ -54,5 +54,6 @@ returns-2 c = search needs
 
 pub try-file-spec : {M : Type 1} → statement M
 try-file-spec =
-    tie.close (tie.spec number-at-requires next-word-requires number-at-requires-2 cast-windows next-word-requires-2 number-at-requires-3 cast-minimum slice-aggregate-put-plan
-    next-word-requires-3 put-plan-requires array-share-prefix-buffer slice-aggregate-try-plan try-plan-requires returns returns-2)
+    tie.close (tie.spec number-at-requires next-word-requires number-at-requires-2 cast-windows next-word-requires-2 number-at-requires-3
+    cast-minimum slice-aggregate-put-plan next-word-requires-3 put-plan-requires array-share-prefix-buffer slice-aggregate-try-plan
+    try-plan-requires returns returns-2)

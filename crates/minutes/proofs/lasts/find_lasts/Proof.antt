@@ -59,5 +59,5 @@ returns c = filling-end _ _ _ _ _ (c .loop-test .left) (c .before .loop .inv)
 
 pub find-lasts-spec : {M : Type 1} → statement M
 find-lasts-spec =
-    tie.close (tie.spec Inv-loop μ-loop minimum-handover-requires loop-holds bound-at-requires last-before-requires cast-lasts mul-lasts slice-write-lasts
-    add-position loop-less loop-again same-length returns)
+    tie.close (tie.spec Inv-loop μ-loop minimum-handover-requires loop-holds bound-at-requires last-before-requires cast-lasts mul-lasts
+    slice-write-lasts add-position loop-less loop-again same-length returns)

@@ -56,5 +56,5 @@ returns c = filling-end _ _ _ _ _ (c .loop-test .left) (c .before .loop .inv .fi
 
 pub find-parents-spec : {M : Type 1} → statement M
 find-parents-spec =
-    tie.close (tie.spec Inv-loop μ-loop minimum-handover-requires loop-holds offset-at-requires first-past-requires cast-parents mul-parents slice-write-parents
-    add-position loop-less loop-again same-length returns)
+    tie.close (tie.spec Inv-loop μ-loop minimum-handover-requires loop-holds offset-at-requires first-past-requires cast-parents
+    mul-parents slice-write-parents add-position loop-less loop-again same-length returns)

@@ -30,6 +30,4 @@ returns c = let w = c .before in let q = w .before .before .pre in
     bound-read _ (q .0) _ (q .1 .1) _ _ _ (w .window-at .ensures) (c .window-end .ensures) (q .1 .0)
 
 pub bound-at-spec : {M : Type 1} → statement M
-bound-at-spec =
-    tie.close (tie.spec window-at-requires window-end-requires sub-result sub-result-2 cast-result
-    returns)
+bound-at-spec = tie.close (tie.spec window-at-requires window-end-requires sub-result sub-result-2 cast-result returns)

@@ -9,7 +9,7 @@ use Rattle.minutes.proofs.windows.window_at.Statement.{statement}
 use Rattle.minutes.proofs.windows.window_at.Tie as tie
 
 cast-window-place : tie.Need-cast-window-place
-cast-window-place c = omega (arith, window-within (now (c .before .args .file)) (c .before .pre .0) (c .before .args .position) (c .before .pre .1))
+cast-window-place c = let d = c .before in omega (arith, window-within (now (d .args .file)) (d .pre .0) (d .args .position) (d .pre .1))
 
 window-place-requires : tie.Need-window-place-requires
 window-place-requires c κs = search needs
@@ -36,5 +36,5 @@ returns c = window-at _ _ _ _ (c .before .before .window-place .ensures) (c .rea
 
 pub window-at-spec : {M : Type 1} → statement M
 window-at-spec =
-    tie.close (tie.spec cast-window-place window-place-requires add-read-window sub-read-window part-read-window-start part-read-window-end read-window-requires
-    returns)
+    tie.close (tie.spec cast-window-place window-place-requires add-read-window sub-read-window part-read-window-start
+    part-read-window-end read-window-requires returns)

@@ -59,5 +59,5 @@ returns c = let d = c .before .before .before .before .before in
 
 pub count-neighbours-spec : {M : Type 1} → statement M
 count-neighbours-spec =
-    tie.close (tie.spec Inv-loop μ-loop minimum-handover-requires window-at-requires loop-holds meets-requires cast-found add-found add-position loop-less loop-again
-    returns)
+    tie.close (tie.spec Inv-loop μ-loop minimum-handover-requires window-at-requires loop-holds meets-requires cast-found add-found
+    add-position loop-less loop-again returns)

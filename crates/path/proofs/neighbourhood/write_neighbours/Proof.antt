@@ -83,5 +83,5 @@ returns c = let d = c .before .before .before .before .before .before in
 
 pub write-neighbours-spec : {M : Type 1} → statement M
 write-neighbours-spec =
-    tie.close (tie.spec Inv-loop μ-loop minimum-handover-requires window-at-requires loop-holds meets-requires cast-out mul-out slice-write-out add-found
-    add-position loop-less loop-again same-length returns)
+    tie.close (tie.spec Inv-loop μ-loop minimum-handover-requires window-at-requires loop-holds meets-requires cast-out mul-out
+    slice-write-out add-found add-position loop-less loop-again same-length returns)

@@ -70,5 +70,5 @@ returns-2 c = climbing-arrived _ _ _ _ _ _ (c .before .before .loop .inv) (past-
 
 pub climb-steps-spec : {M : Type 1} → statement M
 climb-steps-spec =
-    tie.close (tie.spec Inv-loop μ-loop minimum-handover-requires loop-holds is-past-requires mul-parent shared-slice-read-parent cast-parent add-result returns
-    add-steps loop-less loop-again returns-2)
+    tie.close (tie.spec Inv-loop μ-loop minimum-handover-requires loop-holds is-past-requires mul-parent shared-slice-read-parent
+    cast-parent add-result returns add-steps loop-less loop-again returns-2)

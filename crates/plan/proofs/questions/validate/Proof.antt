@@ -42,7 +42,8 @@ by-requires-3 c κs = search needs
 returns-3 : tie.Need-returns-3
 unfolding windowCount
 returns-3 c = let m = c .before .before .before in let d = m .before .before in
-    rw (c .by3 .ensures) (refused-14 _ _ (d .read-u16 .ensures) (d .before .if1 .left) (m .before .if2 .left) _ (m .minimum-handover .ensures)
+    rw (c .by3 .ensures)
+    (refused-14 _ _ (d .read-u16 .ensures) (d .before .if1 .left) (m .before .if2 .left) _ (m .minimum-handover .ensures)
     (sym (c .before .before .is-minimum .ensures) ∙ not-true _ (c .before .if3 .taken)))
 
 window-place-requires : tie.Need-window-place-requires
@@ -54,8 +55,10 @@ by-requires-4 c κs = search needs
 returns-4 : tie.Need-returns-4
 unfolding windowCount
 returns-4 c = let i = c .before .before .before in let m = i .before .before in let d = m .before .before in
-    rw (c .by4 .ensures) (refused-3 _ _ (d .read-u16 .ensures) (d .before .if1 .left) (m .before .if2 .left) _ (m .minimum-handover .ensures)
-    (sym (i .before .is-minimum .ensures) ∙ not-false _ (i .if3 .left)) (λ e. c .before .if4 .taken (omega (arith, e, c .before .before .window-place .ensures))))
+    rw (c .by4 .ensures)
+    (refused-3 _ _ (d .read-u16 .ensures) (d .before .if1 .left) (m .before .if2 .left) _ (m .minimum-handover .ensures)
+    (sym (i .before .is-minimum .ensures) ∙ not-false _ (i .if3 .left))
+    (λ e. c .before .if4 .taken (omega (arith, e, c .before .before .window-place .ensures))))
 
 read-u16-requires-2 : tie.Need-read-u16-requires-2
 read-u16-requires-2 c κs = search needs

@@ -46,10 +46,10 @@ about-requires : tie.Need-about-requires Inv-loop μ-loop
 about-requires c κs = search needs
 
 returns : tie.Need-returns Inv-loop μ-loop
-returns c = let d = c .before .before .before .before in
+returns c = let d = c .before .before .before .before in let p = d .before .before .before in
     rw (c .about .ensures)
-    (passed-refused _ _ _ _ _ _ _ (d .before .before .before .before .loop-test .taken) (d .before .before .before .before .before .loop .inv)
-    (window-at _ _ _ _ (d .before .before .before .window-place .ensures) (d .before .read-window .ensures)) _ (sym (c .before .before .asked .given .1) ∙ d .ask-window .ensures))
+    (passed-refused _ _ _ _ _ _ _ (p .before .loop-test .taken) (p .before .before .loop .inv)
+    (window-at _ _ _ _ (p .window-place .ensures) (d .before .read-window .ensures)) _ (sym (c .before .before .asked .given .1) ∙ d .ask-window .ensures))
 
 enum-told : tie.Need-enum-told Inv-loop μ-loop
 enum-told c = search needs
@@ -61,9 +61,9 @@ loop-less : tie.Need-loop-less Inv-loop μ-loop
 loop-less c = search needs
 
 loop-again : tie.Need-loop-again Inv-loop μ-loop
-loop-again c = let d = c .before .before in
-    passed-turn _ _ _ _ _ _ _ (d .before .before .before .before .loop-test .taken) (d .before .before .before .before .before .loop .inv)
-    (window-at _ _ _ _ (d .before .before .before .window-place .ensures) (d .before .read-window .ensures)) (sym (c .enum-told .given .1) ∙ d .ask-window .ensures)
+loop-again c = let d = c .before .before in let p = d .before .before .before in
+    passed-turn _ _ _ _ _ _ _ (p .before .loop-test .taken) (p .before .before .loop .inv)
+    (window-at _ _ _ _ (p .window-place .ensures) (d .before .read-window .ensures)) (sym (c .enum-told .given .1) ∙ d .ask-window .ensures)
 
 returns-2 : tie.Need-returns-2 Inv-loop μ-loop
 returns-2 c = passed-end _ _ _ _ _ _ (c .loop-test .left) (c .before .loop .inv)
