@@ -1,6 +1,7 @@
 -- What is known of an accepted plan's file by the number of its windows, and that a validation hands it on; and where each of its
 -- windows lies, which whoever reads windows cites.
--- Vocabulary: windows-few, windows-order, validated-windows, window-within, minimum-within, bound-fits, own-offset.
+-- Vocabulary: windows-few, windows-order, validated-windows, window-within, minimum-within, bound-fits, own-offset, end-fits,
+-- needed-least.
 -- Assumes nothing.
 use Prim.Native.Nat.{ℕ, _+_, _-_, _≤_, _<_}
 use mathlib.Core.{Path._≡_, Path.sym, Path._∙_, List.List}
@@ -49,3 +50,11 @@ module _ (file : List ℕ) (ok : AcceptedPlan file) (v : ℕ) (h : v < windowCou
   pub own-offset : windowAt file v .offset < boundOf (minimumHandover file) (windowAt file v)
   unfolding boundOf endOf
   own-offset = omega (arith, accepted-sound file ok .least, accepted-sound file ok .long v h)
+
+  -- Its end fits 32 bits, and what an earlier window must end at is no greater.
+  pub end-fits : endOf (windowAt file v) < 4294967296
+  end-fits = omega (arith, accepted-sound file ok .early v h)
+
+  pub needed-least : windowAt file v .offset + minimumHandover file ≤ endOf (windowAt file v)
+  unfolding endOf
+  needed-least = omega (arith, accepted-sound file ok .long v h)

@@ -1,11 +1,11 @@
 -- Laws of `passing`: the numbers of a range that pass a test, as a rising list.
 -- Assumes nothing.
 use Prim.Native.Nat.{ℕ, zero, suc, _+_, _≤_, _<_}
-use mathlib.Core.{Bool.Bool, Bool.true, Bool.false, Path._≡_, Path.refl, Path.ap, Logic.⊎-elim}
+use mathlib.Core.{Bool.Bool, Bool.true, Bool.false, Path._≡_, Path.refl, Path.ap, Path._∙_, Logic.⊎-elim}
 use mathlib.Core.List.{List, [], _∷_, _++_, List·Memᴰ, List·Memᴰ·head, List·Memᴰ·tail, List·Memᴰ·not-nil, List·Memᴰ·cases-cons}
 use native.Mathlib.Omega.{arith}
 use lib.ListN.{length}
-use Rattle.sequences.specs.Search.{count, passing}
+use Rattle.sequences.specs.{Search.count, Search.passing, Table.table}
 use Rattle.sequences.proofs.Search.{count-true, count-false}
 use Rattle.sequences.proofs.Tests.{cond-cases, truth, lt-or-ge, true-false-absurd}
 
@@ -70,3 +70,13 @@ unfolding passing
 passing-none p a zero none = refl
 passing-none p a (suc m) none =
     rw (none a (omega arith) (omega arith)) (passing-none p (suc a) m (λ k l r. none k (omega arith) (omega arith)))
+
+-- Where everything in the range passes, the list has all of it.
+pub passing-every : (p : ℕ → Bool) (a m : ℕ) → ((k : ℕ) → a ≤ k → k < a + m → p k ≡ true) → passing p a m ≡ table (λ i. a + i) m
+unfolding passing table
+passing-every p a zero all = refl
+passing-every p a (suc m) all =
+    let e : suc m ≡ m + 1 = omega arith in
+    rw (← passing-every p a m (λ k l r. all k l (omega arith)))
+    (ap (passing p a) e ∙ passing-add p a m 1
+    ∙ ap (λ (l : List ℕ). passing p a m ++ l) (passing-true p (a + m) 0 (all (a + m) (omega arith) (omega arith))))
