@@ -1,7 +1,7 @@
 -- What the passes are handed and what the searches inside them find. Nothing here has to be believed: no public promise
 -- cites it.
--- Vocabulary: Prepared, FirstPast, Sorted, LastBefore.
-use Prim.Native.Nat.{ℕ, _≤_, _<_}
+-- Vocabulary: Prepared, FirstPast, Quartered, Sorted, LastBefore.
+use Prim.Native.Nat.{ℕ, zero, suc, _*_, _≤_, _<_}
 use mathlib.Core.Path.{_≡_}
 use mathlib.Core.List.{List}
 use lib.ListN.{length, getD}
@@ -24,6 +24,17 @@ pub record FirstPast (bounds : ℕ → ℕ) (offset from to r : ℕ) : Type 0 wh
   pub high : r ≤ to
   pub past : r < to → offset < bounds r
   pub before : (k : ℕ) → from ≤ k → k < r → bounds k ≤ offset
+
+-- A number that can be quartered until 1 or 2 is left.
+unfoldable pub fours : (rest times : ℕ) → ℕ
+fours rest zero = rest
+fours rest (suc times) = 4 * fours rest times
+
+pub record Quartered (n : ℕ) : Type 0 where
+  pub rest : ℕ
+  pub times : ℕ
+  pub few : rest ≤ 2
+  pub whole : n ≡ fours rest times
 
 -- The first n entries do not fall.
 abbrev pub Sorted : List ℕ → ℕ → Type 0
