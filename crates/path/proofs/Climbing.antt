@@ -3,26 +3,27 @@
 -- Vocabulary: Climbing.
 -- Assumes nothing.
 use Prim.Native.Nat.{ℕ, suc, _+_, _-_, _≤_, _<_}
-use mathlib.Core.{Bool.Bool, Bool.true, Bool.false, Bool.not, Path._≡_, Path.sym, Path._∙_, Logic.⊎-elim, List.List}
+use mathlib.Core.{Bool.Bool, Path._≡_, Path.sym, Path._∙_, Logic.⊎-elim, List.List}
 use native.Mathlib.Omega.{arith}
 use native.Mathlib.Numerals.{add-one}
-use lib.Dec.{ltb, leb}
-use borrow.Author.Tests.{ltb-true, ltb-false, lt-ltb, le-ltb, le-leb, lt-leb}
-use Rattle.sequences.proofs.Tests.{true-false-absurd, lt-or-ge}
+use lib.Dec.{leb}
+use borrow.Author.Tests.{le-leb, lt-leb}
+use Rattle.sequences.proofs.Tests.{lt-or-ge}
 use Rattle.sequences.proofs.Search.{least-le, least-unique}
-use Rattle.interval_graph.specs.Order.{IntervalOrder}
 use Rattle.interval_graph.specs.Tree.{last, parent, ancestor}
 use Rattle.interval_graph.specs.Walk.{climb}
-use Rattle.interval_graph.proofs.Last.{last-ge, overlap-last, last-overlap}
 use Rattle.interval_graph.proofs.Parent.{parent-le, tree}
 use Rattle.interval_graph.proofs.Ancestor.{ancestor-zero, ancestor-suc, ancestor-add}
 use Rattle.interval_graph.proofs.Depth.{fixed-stays}
 use lib.ListN.{length, getD}
-use Rattle.plan.specs.File.{windowCount}
+use Rattle.plan.specs.declared.windows.Window.{Window}
+use Rattle.plan.specs.File.{windowCount, windowAt}
 use Rattle.plan.specs.Overlap.{overlaps}
-use Rattle.plan.specs.Validation.{greatestCount}
+use Rattle.plan.specs.Validation.{greatestCount, AcceptedPlan}
 use Rattle.plan.proofs.Accepted.{accepted-sound}
+use Rattle.minutes.specs.Tables.{boundAt, lastOf}
 use Rattle.path.specs.Steps.{Parented}
+use Rattle.path.proofs.Meeting.{behind-last, not-behind}
 
 -- What the walk is handed: few windows, and an entry for each, which is its parent.
 module _ {file parents : List ℕ} (p : Parented file parents) where
@@ -42,24 +43,16 @@ pub record Climbing (n : ℕ) (overlaps : ℕ → ℕ → Bool) (u v at steps : 
   pub fell : at + steps ≤ v
   pub behind : (k : ℕ) → k < steps → last n overlaps u < ancestor overlaps k v
 
-module _ {n : ℕ} {overlaps : ℕ → ℕ → Bool} (ok : IntervalOrder n overlaps) (u x : ℕ) where
-  -- A window not behind u is not behind its last.
-  pub past-not : x ≤ u → false ≡ ltb (last n overlaps u) x
-  past-not h = sym (le-ltb (last n overlaps u) x (omega (arith, last-ge ok u)))
+-- What the test on a window's offset says.
+module _ (file : List ℕ) (ok : AcceptedPlan file) (u : ℕ) (own : u < windowCount file) (v : ℕ) (within : v < windowCount file)
+    (bound : ℕ) (w : Window) (formed : bound ≡ boundAt file u) (read : w ≡ windowAt file v) where
+  pub past-behind : bound ≤ w .offset → last (windowCount file) (overlaps file) u < v
+  unfolding lastOf
+  past-behind far = behind-last file ok u own v within (rw (formed, read) at far)
 
-  -- One behind u is behind its last exactly if it does not overlap u.
-  pub past-apart : (r : Bool) → u < x → x < n → r ≡ overlaps u x → not r ≡ ltb (last n overlaps u) x
-  past-apart true h g e = sym (le-ltb (last n overlaps u) x (overlap-last ok u x h g (sym e)))
-  past-apart false h g e =
-      sym (lt-ltb (last n overlaps u) x (⊎-elim (λ l. l)
-      (λ l. absurd (true-false-absurd _ (last-overlap ok u x h l) (sym e))) (lt-or-ge (last n overlaps u) x)))
-
--- What the test's answer says.
-pub past-true : (r : Bool) (a b : ℕ) → r ≡ ltb a b → r ≡ true → a < b
-past-true r a b e t = ltb-true a b (sym e ∙ t)
-
-pub past-false : (r : Bool) (a b : ℕ) → r ≡ ltb a b → r ≡ false → b ≤ a
-past-false r a b e t = ltb-false a b (sym e ∙ t)
+  pub past-before : w .offset < bound → v ≤ last (windowCount file) (overlaps file) u
+  unfolding lastOf
+  past-before near = not-behind file ok u own v within (rw (formed, read) at near)
 
 module _ (n : ℕ) (overlaps : ℕ → ℕ → Bool) (u v : ℕ) where
   -- There are never more steps than windows up to v.

@@ -1,27 +1,34 @@
--- The pass over the windows that lists those which overlap one window; and the answer after each test of the call, over plain
--- numbers and lists.
--- Vocabulary: Counted, Listed.
+-- The pass over the windows before one window that lists those which overlap it, the run of those behind it, and that the two are its
+-- neighbours; and the answer after each test of the call, over plain numbers and lists.
+-- Vocabulary: Counted, Listed, Running.
 -- Assumes nothing.
-use Prim.Native.Nat.{ℕ, _+_, _≤_, _<_}
-use mathlib.Core.{Bool.Bool, Bool.true, Bool.false, Path._≡_, Path.refl, Path.sym, Path.ap, Path._∙_, List.List, List.[], List._∷_}
-use native.Mathlib.Omega.{arith}
+use Prim.Native.Nat.{ℕ, _+_, _-_, _≤_, _<_}
+use mathlib.Core.{Bool.Bool, Bool.true, Bool.false, Path._≡_, Path.refl, Path.sym, Path.ap, Path._∙_, Logic.⊎-elim}
+use mathlib.Core.List.{List, [], _∷_, _++_, append-nil}
+use native.Mathlib.{Omega.arith, Numerals.add-one}
 use mir.Val.{boolByte}
-use lib.ListN.{length, set, length-append}
+use lib.ListN.{length, set, length-append, length-set}
 use borrow.Author.Tests.{lt-ltb, le-ltb, le-leb, lt-leb}
 use Rattle.sequences.specs.Search.{passing}
-use Rattle.sequences.specs.Table.{overwritten}
+use Rattle.sequences.specs.Table.{table, overwritten}
+use Rattle.sequences.proofs.{Tests.truth, Table.length-table, Passing.passing-add, Passing.passing-none, Passing.passing-every}
 use Rattle.sequences.proofs.Appending.{Written, written-none, written-more, passing-more, passing-kept, passing-monotone, passing-few}
+use Rattle.wire.specs.LittleEndian.{placed}
+use Rattle.wire.proofs.LittleEndian.{placed-fits, placed-behind, placed-overwritten}
+use Rattle.interval_graph.proofs.Last.{last-overlap, neighbour-le-last}
 use Rattle.refusals.specs.declared.Refusal.{Refusal}
 use Rattle.refusals.specs.Question.{refusalBy, question, positionQuestion, roomQuestion, firstNo}
 use Rattle.plan.specs.declared.questions.Validation.{Validation}
 use Rattle.plan.specs.declared.questions.Validation.the-variants as Validation
 use Rattle.plan.specs.File.{windowCount}
 use Rattle.plan.specs.Overlap.{overlaps}
-use Rattle.plan.specs.Validation.{validateAnswerOf}
+use Rattle.plan.specs.Validation.{AcceptedPlan, validateAnswerOf}
 use Rattle.plan.specs.AcceptedWindows.{AcceptedWindows}
-use Rattle.plan.proofs.Calls.{plan-refused, plan-passed}
+use Rattle.plan.proofs.{Overlap.interval-order, Calls.plan-refused, Calls.plan-passed}
+use Rattle.minutes.specs.Tables.{lastOf}
 use Rattle.path.specs.declared.answers.NeighboursAnswer.the-variants.{Neighbours, Refused}
 use Rattle.path.specs.Neighbours.{neighboursOf, neighboursQuestions, neighboursAnswerOf}
+use Rattle.path.proofs.Meeting.{last-within}
 
 -- An answer counts as at most 1.
 pub one-most : (t : Bool) → boolByte t ≤ 1
@@ -103,17 +110,89 @@ listed-end p n before now found v done s =
     let e : v ≡ n = omega (arith, s .so-far .within) in
     rw e at (s .list .written)
 
--- The list that the pass makes is the neighbours.
-module _ (file : List ℕ) (windows at : ℕ) (named : windows ≡ windowCount file) where
-  pub listing-neighbours : passing (overlaps file at) 0 windows ≡ neighboursOf file at
-  unfolding neighboursOf
-  listing-neighbours = rw named
+-- A run of numbers that is being written behind others, before a step.
+pub record Running (from many written : ℕ) (before now : List ℕ) (step : ℕ) : Type 0 where
+  pub within : step ≤ many
+  pub run : now ≡ placed before written (table (λ i. from + i) step)
+  pub long : length now ≡ length before
 
-  pub listing-room : (room : ℕ) → length (neighboursOf file at) ≤ room → length (passing (overlaps file at) 0 windows) ≤ room
-  listing-room room h = rw listing-neighbours h
+module _ (from many written : ℕ) (before : List ℕ) (room : written + many ≤ length before) where
+  pub running-start : Running from many written before before 0
+  unfolding table
+  running-start = record { within = omega arith; run = sym (placed-fits before written [] (omega arith)); long = refl }
 
-  pub neighbours-few : length (neighboursOf file at) ≤ windows
-  neighbours-few = rw (← listing-neighbours) (passing-few (overlaps file at) 0 windows)
+  pub running-turn : (now : List ℕ) (step : ℕ) → step < many → Running from many written before now step →
+      Running from many written before (set now (written + step) (from + step)) (step + 1)
+  unfolding table
+  running-turn now step less s =
+      let so-far = table (λ i. from + i) step in
+      let next = (from + step) ∷ [] in
+      let count : written + length so-far ≡ written + step = omega (arith, length-table (λ i. from + i) step) in
+      record {
+        within = omega arith;
+        run = rw (add-one step, s .run)
+            (sym (placed-fits (placed before written so-far) (written + step) next (omega (arith, s .long, ap (length {A = ℕ}) (s .run))))
+            ∙ (rw count at (placed-behind before written so-far next (omega (arith, length-table (λ i. from + i) step)))));
+        long = length-set now (written + step) (from + step) ∙ s .long;
+      }
+
+  pub running-end : (now : List ℕ) (step : ℕ) → many ≤ step → Running from many written before now step →
+      now ≡ placed before written (table (λ i. from + i) many)
+  running-end now step done s = let e : step ≡ many = omega (arith, s .within) in rw e at (s .run)
+
+-- The neighbours are those of the windows before that overlap, and behind it all up to the last.
+module _ (file : List ℕ) (ok : AcceptedPlan file) (at last : ℕ) (own : at < windowCount file) (found : last ≡ lastOf file at) where
+  neighbours-split : neighboursOf file at ≡ passing (overlaps file at) 0 at ++ table (λ i. at + 1 + i) (last - at)
+  unfolding neighboursOf lastOf
+  neighbours-split =
+      let left = windowCount file - (last + 1) in
+      let all : windowCount file ≡ (at + 1) + ((last - at) + left) = omega (arith, found, last-within file ok at own) in
+      let e : 0 + (at + 1) ≡ at + 1 = omega arith in
+      ap (passing (overlaps file at) 0) all ∙ passing-add (overlaps file at) 0 (at + 1) ((last - at) + left)
+      ∙ rw (e, passing-kept (overlaps file at) at (interval-order file ok .irreflexive at))
+      (ap (λ (l : List ℕ). passing (overlaps file at) 0 at ++ l) behind)
+    where
+      run : passing (overlaps file at) (at + 1) (last - at) ≡ table (λ i. at + 1 + i) (last - at)
+      run =
+          passing-every (overlaps file at) (at + 1) (last - at)
+          (λ v l r. last-overlap (interval-order file ok) at v (omega arith) (omega (arith, found)))
+
+      none : (v : ℕ) → at + 1 + (last - at) ≤ v → v < at + 1 + (last - at) + (windowCount file - (last + 1)) → overlaps file at v ≡ false
+      none v l r =
+          ⊎-elim (λ t. absurd (omega (
+            arith,
+            found,
+            last-within file ok at own,
+            neighbour-le-last (interval-order file ok) at v (omega
+                (arith, found, last-within file ok at own)) t,
+          ))) (λ t. t) (truth (overlaps file at v))
+
+      behind : passing (overlaps file at) (at + 1) ((last - at) + (windowCount file - (last + 1))) ≡ table (λ i. at + 1 + i) (last - at)
+      behind =
+          passing-add (overlaps file at) (at + 1) (last - at) (windowCount file - (last + 1))
+          ∙ rw (run, passing-none (overlaps file at) (at + 1 + (last - at)) (windowCount file - (last + 1)) none)
+          (append-nil (table (λ i. at + 1 + i) (last - at)))
+
+  module _ (earlier : ℕ) (counted : earlier ≡ length (passing (overlaps file at) 0 at)) where
+    pub neighbours-counted : earlier + (last - at) ≡ length (neighboursOf file at)
+    neighbours-counted =
+        rw neighbours-split (omega (
+          arith,
+          counted,
+          length-append (passing (overlaps file at) 0 at) (table (λ i. at + 1 + i) (last - at)),
+          length-table (λ i. at + 1 + i) (last - at),
+        ))
+
+    pub neighbours-written : (before first second : List ℕ) → earlier + (last - at) ≤ length before →
+        first ≡ overwritten before (passing (overlaps file at) 0 at) → second ≡ placed first earlier (table (λ i. at + 1 + i) (last - at)) → second ≡ overwritten before (neighboursOf file at)
+    neighbours-written before first second room e f =
+        rw (f, e, counted, neighbours-split)
+        (placed-overwritten before (passing (overlaps file at) 0 at) (table (λ i. at + 1 + i) (last - at))
+        (omega (arith, counted, length-table (λ i. at + 1 + i) (last - at))))
+
+pub neighbours-few : (file : List ℕ) (windows at : ℕ) → windows ≡ windowCount file → length (neighboursOf file at) ≤ windows
+unfolding neighboursOf
+neighbours-few file windows at named = rw named (passing-few (overlaps file at) 0 (windowCount file))
 
 -- The answers.
 module _ (file : List ℕ) (at room : ℕ) where

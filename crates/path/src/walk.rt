@@ -1,32 +1,15 @@
 // The walk up from the later window, from parent to parent, until a window that the earlier one overlaps, or one that does
 // not stand behind it.
-use crate::windows::meets;
+use crate::windows::bound_at;
 use crate::windows::window_at;
 ghost use mathlib.Core.Path.{_≡_};
 ghost use Prim.Native.Nat.{_<_};
 ghost use lib.ListN.{length};
-ghost use lib.Dec.{ltb};
 ghost use Rattle.sequences.specs.Table.{overwritten};
-ghost use Rattle.interval_graph.specs.Tree.{last};
 ghost use Rattle.interval_graph.specs.Walk.{climb};
-ghost use Rattle.plan.specs.File.{windowCount, minimumHandover};
+ghost use Rattle.plan.specs.File.{windowCount};
 ghost use Rattle.plan.specs.Overlap.{overlaps};
-ghost use Rattle.plan.specs.Validation.{AcceptedPlan};
 ghost use Rattle.path.specs.Steps.{Parented, stepsBefore, walked};
-
-// Whether a window stands behind the last of the earlier one: behind it, and apart from it.
-fn is_past(file: &[u8], minimum: u32, earlier: usize, at: usize) -> bool
-    requires { ⌜ AcceptedPlan (now file) ⌝ }
-    requires { ⌜ minimum ≡ minimumHandover (now file) ⌝ }
-    requires { ⌜ earlier < windowCount (now file) ⌝ }
-    requires { ⌜ at < windowCount (now file) ⌝ }
-    ensures { λ r. ⌜ r ≡ ltb (last (windowCount (now (file .entry))) (overlaps (now (file .entry))) earlier) at ⌝ }
-{
-    if at <= earlier {
-        return false;
-    }
-    !meets(file, minimum, earlier, window_at(file, earlier), at)
-}
 
 // The steps up from the later window to one that is not past the earlier one's last; `later + 1` where the root is.
 fn climb_steps(file: &[u8], parents: &[u16], earlier: usize, later: usize) -> usize
@@ -35,10 +18,11 @@ fn climb_steps(file: &[u8], parents: &[u16], earlier: usize, later: usize) -> us
     requires { ⌜ later < windowCount (now file) ⌝ }
     ensures { λ r. ⌜ r ≡ climb (windowCount (now (file .entry))) (overlaps (now (file .entry))) earlier later ⌝ }
 {
-    let minimum = plan::minimum_handover(file);
+    let bound = bound_at(file, earlier);
     let mut at = later;
     let mut steps = 0;
-    while is_past(file, minimum, earlier, at) {
+    // A window that begins at the bound or after it stands behind the last, and no other does.
+    while bound <= window_at(file, at).offset {
         let parent = parents[at] as usize;
         if parent == at {
             return later + 1;

@@ -1,11 +1,12 @@
-// The windows of an accepted plan, and whether two of them overlap.
+// The windows of an accepted plan, and the two sums by which others overlap one. Each is formed once, before a search or a pass goes
+// over those others.
 use plan::WINDOW_LENGTH;
 use plan::Window;
 ghost use mathlib.Core.Path.{_≡_};
-ghost use Prim.Native.Nat.{_<_};
-ghost use Rattle.plan.specs.File.{windowCount, minimumHandover, windowAt};
-ghost use Rattle.plan.specs.Overlap.{overlaps};
+ghost use Prim.Native.Nat.{_+_, _<_};
+ghost use Rattle.plan.specs.File.{windowCount, minimumHandover, windowAt, endOf};
 ghost use Rattle.plan.specs.Validation.{AcceptedPlan};
+ghost use Rattle.minutes.specs.Tables.{boundAt};
 
 pub(crate) fn window_at(file: &[u8], position: usize) -> Window
     requires { ⌜ AcceptedPlan (now file) ⌝ }
@@ -16,21 +17,32 @@ pub(crate) fn window_at(file: &[u8], position: usize) -> Window
     plan::read_window(&file[at..at + WINDOW_LENGTH])
 }
 
-// Whether a window that was read overlaps the one at a second position. No window overlaps itself.
-pub(crate) fn meets(file: &[u8], minimum: u32, first: usize, window: Window, second: usize) -> bool
+// In an accepted plan an end fits 32 bits, and so do the two sums, which are no greater.
+pub(crate) fn end_at(file: &[u8], position: usize) -> u32
     requires { ⌜ AcceptedPlan (now file) ⌝ }
-    requires { ⌜ minimum ≡ minimumHandover (now file) ⌝ }
-    requires { ⌜ window ≡ windowAt (now file) first ⌝ }
-    requires { ⌜ first < windowCount (now file) ⌝ }
-    requires { ⌜ second < windowCount (now file) ⌝ }
-    ensures { λ r. ⌜ r ≡ overlaps (now (file .entry)) first second ⌝ }
+    requires { ⌜ position < windowCount (now file) ⌝ }
+    ensures { λ r. ⌜ r ≡ endOf (windowAt (now (file .entry)) position) ⌝ }
 {
-    if first == second {
-        return false;
-    }
-    let other = window_at(file, second);
-    if first < second {
-        return plan::overlap_in_order(minimum, window, other);
-    }
-    plan::overlap_in_order(minimum, other, window)
+    let window = window_at(file, position);
+    window.offset + window.length
+}
+
+// What an earlier window that overlaps the one at a position ends at, or after.
+pub(crate) fn needed_at(file: &[u8], position: usize) -> u32
+    requires { ⌜ AcceptedPlan (now file) ⌝ }
+    requires { ⌜ position < windowCount (now file) ⌝ }
+    ensures { λ r. ⌜ r ≡ windowAt (now (file .entry)) position .offset + minimumHandover (now (file .entry)) ⌝ }
+{
+    let minimum = plan::minimum_handover(file);
+    window_at(file, position).offset + minimum
+}
+
+// What a later window that overlaps the one at a position begins before.
+pub(crate) fn bound_at(file: &[u8], position: usize) -> u32
+    requires { ⌜ AcceptedPlan (now file) ⌝ }
+    requires { ⌜ position < windowCount (now file) ⌝ }
+    ensures { λ r. ⌜ r ≡ boundAt (now (file .entry)) position ⌝ }
+{
+    let minimum = plan::minimum_handover(file);
+    end_at(file, position) - (minimum - 1)
 }

@@ -1,48 +1,42 @@
 -- `path::neighbourhood::count_neighbours` meets its contract. The loop's invariant is `Counted`; the measure is what is left of the
--- windows.
+-- windows before.
 -- Assumes nothing.
 use Prim.Native.Nat.{_-_}
-use mathlib.Core.Path.{sym}
 use native.Mathlib.Omega.{arith}
+use denote.Ref.{now}
+use lib.Dec.{leb}
 use Rattle.plan.specs.Overlap.{overlaps}
-use Rattle.path.proofs.Neighbouring.{Counted, counted-start, counted-turn, counted-few, one-most, counted-end, listing-neighbours}
+use Rattle.path.proofs.Meeting.{last-within, meets-earlier}
+use Rattle.path.proofs.Neighbouring.{Counted, counted-start, counted-turn, counted-few, one-most, counted-end, neighbours-counted}
 use borrow.Author.Needs.{needs}
 use Rattle.path.proofs.neighbourhood.count_neighbours.Statement.{statement}
 use Rattle.path.proofs.neighbourhood.count_neighbours.Tie as tie
 
 abbrev Inv-loop : tie.InvT-loop
-Inv-loop file windows at minimum window found₀ position₀ found position = Counted (overlaps file at) windows found position
+Inv-loop file at last needed earlier₀ position₀ earlier position = Counted (overlaps file at) at earlier position
 
 abbrev μ-loop : tie.MeasureT-loop
-μ-loop file windows at minimum window found₀ position₀ found position = windows - position
+μ-loop file at last needed earlier₀ position₀ earlier position = at - position
 
-minimum-handover-requires : tie.Need-minimum-handover-requires Inv-loop μ-loop
-minimum-handover-requires c κs = search needs
-
-window-at-requires : tie.Need-window-at-requires Inv-loop μ-loop
-window-at-requires c κs = let p = c .before .before .pre .0 in (p .accepted, omega (arith, p .counted))
+needed-at-requires : tie.Need-needed-at-requires Inv-loop μ-loop
+needed-at-requires c κs = search needs
 
 loop-holds : tie.Need-loop-holds Inv-loop μ-loop
 loop-holds c = counted-start _ _
 
-meets-requires : tie.Need-meets-requires Inv-loop μ-loop
-meets-requires c κs = let d = c .before .before .before .before .before in
-    let p = d .pre .0 in (
-      p .accepted,
-      (
-        c .before .before .before .minimum-handover .ensures,
-        (
-          c .before .before .window-at .ensures,
-          (omega (arith, p .counted), omega (arith, p .counted)),
-        ),
-      ),
+end-at-requires : tie.Need-end-at-requires Inv-loop μ-loop
+end-at-requires c κs = search needs
+
+cast-earlier : tie.Need-cast-earlier Inv-loop μ-loop
+cast-earlier c = search needs
+
+add-earlier : tie.Need-add-earlier Inv-loop μ-loop
+add-earlier c = let s = c .before .before in
+    omega (
+      arith,
+      counted-few _ _ (s .loop .earlier) (s .loop .position) (s .loop .inv),
+      one-most (leb (s .before .needed-at .result) (c .end-at .result)),
     )
-
-cast-found : tie.Need-cast-found Inv-loop μ-loop
-cast-found c = search needs
-
-add-found : tie.Need-add-found Inv-loop μ-loop
-add-found c = let s = c .before .before .loop in omega (arith, counted-few _ _ (s .found) (s .position) (s .inv), one-most (c .meets .result))
 
 add-position : tie.Need-add-position Inv-loop μ-loop
 add-position c = search needs
@@ -51,13 +45,29 @@ loop-less : tie.Need-loop-less Inv-loop μ-loop
 loop-less c = search needs
 
 loop-again : tie.Need-loop-again Inv-loop μ-loop
-loop-again c = counted-turn _ _ _ _ (c .before .loop-test .taken) _ (sym (c .meets .ensures)) (c .before .before .loop .inv)
+loop-again c = let s = c .before .before in let q = s .before .before .before .pre in
+    let less = c .before .loop-test .taken in
+    counted-turn _ _ _ _ less _ (meets-earlier _ (q .0) _ (q .1 .0) _ _ _ (s .before .needed-at .ensures) (c .end-at .ensures) less) (s .loop .inv)
+
+sub-result : tie.Need-sub-result Inv-loop μ-loop
+sub-result c = let d = c .before .before .before .before in
+    omega (arith, d .pre .1 .1, last-within (now (d .args .file)) (d .pre .0) (d .args .at) (d .pre .1 .0))
+
+add-result : tie.Need-add-result Inv-loop μ-loop
+add-result c = let s = c .before .loop in let d = c .before .before .before .before in
+    omega (
+      arith,
+      d .pre .1 .1,
+      last-within (now (d .args .file)) (d .pre .0) (d .args .at) (d .pre .1 .0),
+      counted-few _ _ (s .earlier) (s .position) (s .inv),
+      s .inv .within,
+    )
 
 returns : tie.Need-returns Inv-loop μ-loop
-returns c = let d = c .before .before .before .before .before in
-    rw (← listing-neighbours _ _ _ (d .pre .0 .counted)) (counted-end _ _ _ _ (c .loop-test .left) (c .before .loop .inv))
+returns c = let q = c .before .before .before .before .pre in
+    neighbours-counted _ (q .0) _ _ (q .1 .0) (q .1 .1) _ (counted-end _ _ _ _ (c .loop-test .left) (c .before .loop .inv))
 
 pub count-neighbours-spec : {M : Type 1} → statement M
 count-neighbours-spec =
-    tie.close (tie.spec Inv-loop μ-loop minimum-handover-requires window-at-requires loop-holds meets-requires cast-found add-found
-    add-position loop-less loop-again returns)
+    tie.close (tie.spec Inv-loop μ-loop needed-at-requires loop-holds end-at-requires cast-earlier add-earlier add-position loop-less loop-again
+    sub-result add-result returns)

@@ -1,87 +1,51 @@
--- `path::neighbourhood::write_neighbours` meets its contract. The loop's invariant is `Listed`; the measure is what is left of the
--- windows.
+-- `path::neighbourhood::write_neighbours` meets its contract: the neighbours before the window, and the run of those behind it.
 -- Assumes nothing.
-use Prim.Native.Nat.{_-_}
-use mathlib.Core.{Path.sym, Path._∙_, Logic.⊎-elim}
+use mathlib.Core.Path.{refl}
 use native.Mathlib.Omega.{arith}
-use Rattle.plan.specs.Overlap.{overlaps}
-use Rattle.plan.proofs.Counted.{windows-few}
-use Rattle.path.proofs.Neighbouring.{Listed, listed-start, listed-room, listed-more}
-use Rattle.path.proofs.Neighbouring.{listed-kept, listed-end, counted-few, listing-room, listing-neighbours}
+use denote.Ref.{now}
+use Rattle.path.proofs.Meeting.{last-within}
+use Rattle.path.proofs.Neighbouring.{neighbours-counted, neighbours-written}
 use borrow.Author.Needs.{needs}
 use Rattle.path.proofs.neighbourhood.write_neighbours.Statement.{statement}
 use Rattle.path.proofs.neighbourhood.write_neighbours.Tie as tie
 
-abbrev Inv-loop : tie.InvT-loop
-Inv-loop file windows at out₀ minimum window found₀ position₀ out found position = Listed (overlaps file at) windows out₀ out found position
+write-earlier-requires : tie.Need-write-earlier-requires
+write-earlier-requires c κs = let d = c .before .before .before in let q = d .pre in
+    let counted = neighbours-counted (now (d .args .file)) (q .0) (d .args .at) (d .args .last) (q .1 .0) (q .1 .1 .0) _ refl in
+    (q .0, (q .1 .0, omega (arith, q .1 .1 .1, counted)))
 
-abbrev μ-loop : tie.MeasureT-loop
-μ-loop file windows at out₀ minimum window found₀ position₀ out found position = windows - position
+add-write-run : tie.Need-add-write-run
+add-write-run c = let d = c .before .before .before .before .before .before in let q = d .pre in
+    omega (arith, last-within (now (d .args .file)) (q .0) (d .args .at) (q .1 .0))
 
-minimum-handover-requires : tie.Need-minimum-handover-requires Inv-loop μ-loop
-minimum-handover-requires c κs = search needs
+sub-write-run : tie.Need-sub-write-run
+sub-write-run c = let d = c .before .before .before .before .before .before in let q = d .pre in
+    omega (arith, q .1 .1 .0, last-within (now (d .args .file)) (q .0) (d .args .at) (q .1 .0))
 
-window-at-requires : tie.Need-window-at-requires Inv-loop μ-loop
-window-at-requires c κs = let p = c .before .before .before .pre .0 in (p .accepted, omega (arith, p .counted))
-
-loop-holds : tie.Need-loop-holds Inv-loop μ-loop
-loop-holds c = listed-start _ _ _
-
-meets-requires : tie.Need-meets-requires Inv-loop μ-loop
-meets-requires c κs = let d = c .before .before .before .before .before .before in
-    let p = d .pre .0 in (
-      p .accepted,
-      (
-        c .before .before .before .minimum-handover .ensures,
-        (
-          c .before .before .window-at .ensures,
-          (omega (arith, p .counted), omega (arith, p .counted)),
-        ),
+write-run-requires : tie.Need-write-run-requires
+write-run-requires c κs = let e = c .before .before .before in let d = e .before .before .before .before in let q = d .pre in
+    let file = now (d .args .file) in (
+      omega (arith, q .1 .1 .0, last-within file (q .0) (d .args .at) (q .1 .0)),
+      omega (
+        arith,
+        q .1 .1 .1,
+        c .before .before .out .given,
+        neighbours-counted file (q .0) (d .args .at) (d .args .last) (q .1 .0) (q .1 .1 .0) _ (e .write-earlier .ensures .0),
       ),
     )
 
-cast-out : tie.Need-cast-out Inv-loop μ-loop
-cast-out c = let d = c .before .before .before .before .before .before .before .before in
-    omega (arith, windows-few (d .pre .0))
+same-length : tie.Need-same-length
+same-length c = search needs
 
-mul-out : tie.Need-mul-out Inv-loop μ-loop
-mul-out c = let d = c .before .before .before .before .before .before .before .before in
-    let s = c .before .before .before .loop in
-    omega (arith, windows-few (d .pre .0), counted-few _ _ (s .found) (s .position) (s .inv .so-far))
-
-slice-write-out : tie.Need-slice-write-out Inv-loop μ-loop
-slice-write-out c = let e = c .before .before .before in let f = e .before .before .before .before .before in
-    let d = f in
-    listed-room _ _ _ _ (c .before .before .loop-test .taken) _ _ (sym (c .before .meets .ensures) ∙ c .if1 .taken)
-    (listing-room _ _ _ (d .pre .0 .counted) _ (d .pre .1 .1)) (e .loop .inv)
-
-add-found : tie.Need-add-found Inv-loop μ-loop
-add-found c = let s = c .before .before .before .loop in omega (arith, counted-few _ _ (s .found) (s .position) (s .inv .so-far))
-
-add-position : tie.Need-add-position Inv-loop μ-loop
-add-position c = search needs
-
-loop-less : tie.Need-loop-less Inv-loop μ-loop
-loop-less c = search needs
-
-loop-again : tie.Need-loop-again Inv-loop μ-loop
-loop-again c = let e = c .before .before .before in let f = e .before .before .before .before .before in
-    let d = f in
-    let h = c .before .before .loop-test .taken in
-    let s = e .loop .inv in
-    let read = sym (c .before .meets .ensures) in
-    let room = listing-room _ _ _ (d .pre .0 .counted) _ (d .pre .1 .1) in
-    ⊎-elim (λ w. rw (w .1, w .2) (listed-more _ _ _ _ h _ _ (read ∙ w .0 .taken) room s))
-    (λ w. rw (w .1, w .2) (listed-kept _ _ _ _ h _ _ (read ∙ w .0 .left) s)) (c .if1 .came)
-
-same-length : tie.Need-same-length Inv-loop μ-loop
-same-length c = c .before .loop .inv .list .long
-
-returns : tie.Need-returns Inv-loop μ-loop
-returns c = let d = c .before .before .before .before .before .before in
-    rw (← listing-neighbours _ _ _ (d .pre .0 .counted)) (listed-end _ _ _ _ _ _ (c .loop-test .left) (c .before .loop .inv))
+returns : tie.Need-returns
+returns c = let r = c .before .before in let e = r .before .before .before .before in
+    let d = e .before .before .before .before in
+    let q = d .pre in
+    neighbours-written (now (d .args .file)) (q .0) _ _ (q .1 .0) (q .1 .1 .0) _ (e .write-earlier .ensures .0) _ _ _ (omega (
+      arith,
+      q .1 .1 .1,
+      neighbours-counted (now (d .args .file)) (q .0) (d .args .at) (d .args .last) (q .1 .0) (q .1 .1 .0) _ (e .write-earlier .ensures .0),
+    )) (e .write-earlier .ensures .1) (r .write-run .ensures)
 
 pub write-neighbours-spec : {M : Type 1} → statement M
-write-neighbours-spec =
-    tie.close (tie.spec Inv-loop μ-loop minimum-handover-requires window-at-requires loop-holds meets-requires cast-out mul-out
-    slice-write-out add-found add-position loop-less loop-again same-length returns)
+write-neighbours-spec = tie.close (tie.spec write-earlier-requires add-write-run sub-write-run write-run-requires same-length returns)
