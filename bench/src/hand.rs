@@ -357,16 +357,18 @@ pub fn hand_neighbours(file: &[u8], at: usize, out: &mut [u16]) -> Result<u16, R
     if at >= pairs.len() / 8 {
         return no(7, 0, 0);
     }
-    // Windows are at least as long as the minimum, so two overlap when each begins so long before the other's end.
-    let (own_offset, own_length) = window(&pairs[8 * at..8 * at + 8]);
+    let (windows, _) = pairs.as_chunks::<8>();
+    let (own_offset, own_length) = window(&windows[at]);
     let (latest, needed) = (own_offset + own_length - minimum, own_offset + minimum);
+    // Offsets do not fall, so the windows behind it that overlap stand next to it.
+    let behind = windows[at + 1..].partition_point(|pair| window(pair).0 <= latest);
     let found = || {
-        let near = move |pair: &[u8]| {
+        let late = move |pair: &[u8; 8]| {
             let (offset, length) = window(pair);
-            (offset <= latest) & (needed <= offset + length)
+            needed <= offset + length
         };
-        let others = pairs.chunks_exact(8).enumerate();
-        others.filter(move |&(v, pair)| v != at && near(pair)).map(|(v, _)| v as u16)
+        let before = windows[..at].iter().enumerate().filter(move |&(_, pair)| late(pair)).map(|(v, _)| v);
+        before.chain(at + 1..=at + behind).map(|v| v as u16)
     };
     let count = found().count();
     if out.len() < count {
