@@ -229,14 +229,19 @@ fn small_even_plans(run: &mut Run) {
     run.report("small even plans");
 }
 
-/// How many windows a large plan has: in the first turn as many as a plan can have.
+/// How many windows a large plan has: in the first turn as many as a plan can have, and then 255, 256 and 257, since the library searches
+/// plans of up to 256 windows in fewer steps.
 fn many(turn: u64, random: &mut Random) -> usize {
-    if turn == 0 { 2048 } else { random.between(100, 700) as usize }
+    match turn {
+        0 => 2048,
+        1..=3 => 254 + turn as usize,
+        _ => random.between(100, 700) as usize,
+    }
 }
 
 /// Larger plans, all pairs of tags; n = 2,048 among them.
 fn large_plans(run: &mut Run) {
-    for turn in 0..run.times(4, 100) {
+    for turn in 0..run.times(6, 100) {
         for shape in SHAPES {
             run.case(&format!("{shape:?}, large"), &mut |comparison| {
                 let random = &mut comparison.random;
