@@ -41,7 +41,7 @@
 #define PODDRESHI_H
 
 /* The version of the library that this header belongs to. */
-#define PODDRESHI_VERSION "2.0.0"
+#define PODDRESHI_VERSION "2.0.1"
 
 #include <stddef.h>
 #include <stdint.h>
