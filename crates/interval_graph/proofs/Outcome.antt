@@ -1,4 +1,4 @@
--- Laws of the rule on the numbers of two windows, whatever plan they come from: what each of its cases says, that the order
+-- Laws of the rule on the numbers of two windows, whatever plan they come from: what its cases say, that the order
 -- of the two does not count, and how large a count can be.
 -- Vocabulary: between-*, short-*, equal-*, comesFirst-*, outcome-*.
 -- Assumes nothing.
@@ -7,32 +7,14 @@ use mathlib.Core.{Bool.true, Bool.false, Bool._&&_, Bool._||_, Path._≡_, Path.
 use mathlib.Core.Logic.{_⊎_, inl, inr, ⊎-elim}
 use native.Mathlib.Omega.{arith}
 use lib.Dec.{ltb, leb, eqb}
-use borrow.Author.Tests.{ltb-true, leb-true, eqb-true, eqb-false, lt-ltb, le-ltb, le-leb, lt-leb, eq-eqb, ne-eqb}
+use borrow.Author.Tests.{ltb-true, leb-true, eqb-true, eqb-false, lt-ltb, le-ltb, eq-eqb, ne-eqb}
 use Rattle.sequences.proofs.Tests.{truth, cond-cases, lt-or-ge, true-false-absurd, and-left, and-right, and-intro, or-cases, or-left, or-right, eqb-symmetric}
 use Rattle.interval_graph.specs.Numbers.{Numbers, apart, no-chain, equal, comesFirst, outcomeBy, between, outcome, shortBetween, shortOutcome}
 use Rattle.interval_graph.specs.Tree.{depth, rank}
 
--- The four cases of the count for u before v. "Rising" is rank u < rank v.
 module _ (u v : Numbers) where
-  -- "D + 1 if rank v ≤ last u or last u < rank u"
-  pub between-rising-near : u .rank < v .rank → (v .rank ≤ u .last) ⊎ (u .last < u .rank) → between u v ≡ v .depth - u .depth + 1
-  unfolding between
-  between-rising-near rising near =
-      rw (lt-ltb _ _ rising)
-      (⊎-elim (λ h. rw (le-leb (v .rank) (u .last) h)) (λ h. rw (or-right (leb (v .rank) (u .last)) _ (lt-ltb (u .last) (u .rank) h))) near)
-
-  -- "else D + 2"
-  pub between-rising-far : u .rank < v .rank → u .last < v .rank → u .rank ≤ u .last → between u v ≡ v .depth - u .depth + 2
-  unfolding between
-  between-rising-far rising past own = rw (lt-ltb _ _ rising, lt-leb _ _ past, le-ltb _ _ own)
-
-  -- "D if rank v ≤ last u and last u < rank u"
-  pub between-falling-near : v .rank ≤ u .rank → v .rank ≤ u .last → u .last < u .rank → between u v ≡ v .depth - u .depth
-  unfolding between
-  between-falling-near falling within below = rw (le-ltb _ _ falling, le-leb _ _ within, lt-ltb _ _ below)
-
-  -- "else D + 1"
-  pub between-falling-far : v .rank ≤ u .rank → (u .last < v .rank) ⊎ (u .rank ≤ u .last) → between u v ≡ v .depth - u .depth + 1
+  -- "Rank u > rank v: … else D + 1"
+  between-falling-far : v .rank ≤ u .rank → (u .last < v .rank) ⊎ (u .rank ≤ u .last) → between u v ≡ v .depth - u .depth + 1
   unfolding between
   between-falling-far falling far =
       rw (le-ltb _ _ falling) (cond-cases (λ k. k ≡ v .depth - u .depth + 1) (leb (v .rank) (u .last) && ltb (u .last) (u .rank))

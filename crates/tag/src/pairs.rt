@@ -6,11 +6,11 @@ use tag_bytes::TagRead;
 use tag_bytes::lookup;
 ghost use mathlib.Core.Path.{_≡_};
 ghost use mathlib.Core.Bool.{true};
-ghost use Prim.Native.Nat.{_≤_};
-ghost use Rattle.interval_graph.specs.Numbers.{comesFirst};
+ghost use Prim.Native.Nat.{_≤_, min, max};
 ghost use Rattle.interval_graph.specs.Numbers as rule;
 ghost use Rattle.refusals.specs.Question.{askedOf};
 ghost use Rattle.tag_bytes.specs.Fields.{numbers, withinLimit, fieldLimit};
+ghost use Rattle.tag.specs.Order.{orderOf, inOrder};
 ghost use Rattle.tag.specs.Pairing.{comparedOf, pairAnswerOf, placeQuestions, pairAtAnswerOf};
 
 pub enum PairAnswer {
@@ -38,30 +38,40 @@ fn same(u: Tag, v: Tag) -> bool
     u.last == v.last
 }
 
-// Whether u is the tag with smaller depth, or smaller rank at equal depth.
-fn comes_first(u: Tag, v: Tag) -> bool
-    ensures { λ r. ⌜ r ≡ comesFirst (numbers u) (numbers v) ⌝ }
+// A tag's depth, rank and rank of the last as one number. Of two tags of one component and two ranks, that with the smaller number is u.
+fn order(tag: Tag) -> u64
+    ensures { λ r. ⌜ r ≡ orderOf (numbers tag) ⌝ }
 {
-    u.depth < v.depth || u.depth == v.depth && u.rank < v.rank
+    4294967296 * (tag.depth as u64) + 65536 * (tag.rank as u64) + tag.last as u64
 }
 
-// The count for two windows of one component, u the one that comes first. A depth within the limit keeps it far from overflow.
-fn between(u: Tag, v: Tag) -> u16
-    requires { ⌜ u .depth ≤ v .depth ⌝ }
-    requires { ⌜ v .depth ≤ fieldLimit ⌝ }
-    ensures { λ r. ⌜ r ≡ rule.between (numbers u) (numbers v) ⌝ }
+fn lesser(x: u64, y: u64) -> u64
+    ensures { λ r. ⌜ r ≡ min x y ⌝ }
 {
-    let levels = v.depth - u.depth;
-    if u.rank < v.rank {
-        if v.rank <= u.last || u.last < u.rank {
-            return levels + 1;
-        }
-        return levels + 2;
-    }
-    if v.rank <= u.last && u.last < u.rank {
-        return levels;
-    }
-    levels + 1
+    if x < y { x } else { y }
+}
+
+fn greater(x: u64, y: u64) -> u64
+    ensures { λ r. ⌜ r ≡ max x y ⌝ }
+{
+    if x < y { y } else { x }
+}
+
+// The count for two windows of one component, from the numbers of u and v. Which of two tags is u, and how their ranks lie, no processor
+// can foresee, so nothing here goes by a branch: of the three comparisons the rule counts how many hold.
+fn between(u: u64, v: u64) -> u16
+    requires { ⌜ u ≤ v ⌝ }
+    requires { ⌜ inOrder v .depth ≤ fieldLimit ⌝ }
+    ensures { λ r. ⌜ r ≡ rule.between (inOrder u) (inOrder v) ⌝ }
+{
+    let levels = v / 4294967296 - u / 4294967296;
+    let rank = u / 65536 % 65536;
+    let last = u % 65536;
+    let other = v / 65536 % 65536;
+    let rising = (rank < other) as u64;
+    let reached = (other <= last) as u64;
+    let around = (last < rank) as u64;
+    (levels + 1 + rising - (rising + reached + around) / 2) as u16
 }
 
 // The answer of two tags of one plan and component that have one rank. In a component a rank belongs to one window (question 12),
@@ -94,10 +104,9 @@ fn compare(a: Tag, b: Tag) -> PairAnswer
     if a.rank == b.rank {
         return one_window(a, b);
     }
-    if comes_first(a, b) {
-        return PairAnswer::Handovers(between(a, b));
-    }
-    PairAnswer::Handovers(between(b, a))
+    let x = order(a);
+    let y = order(b);
+    PairAnswer::Handovers(between(lesser(x, y), greater(x, y)))
 }
 
 // The answer from the bytes of two tags. The second is not read where the first is refused.

@@ -1,44 +1,59 @@
--- `tag::pairs::between` meets its contract: its four answers are the four cases of the rule.
+-- `tag::pairs::between` meets its contract: what it adds up is what the rule counts.
 -- Assumes nothing.
-use mathlib.Core.{Path.sym, Logic.inl, Logic.inr, Logic.⊎-elim}
+use Prim.Native.Nat.{ℕ}
+use mathlib.Core.{Bool.Bool, Path.sym}
 use native.Mathlib.Omega.{arith}
-use borrow.Author.Tests.{ltb-true, ltb-false}
-use Rattle.interval_graph.proofs.Outcome.{between-rising-near, between-rising-far, between-falling-near, between-falling-far}
-use Rattle.tag_bytes.specs.Fields.{numbers}
+use lib.Dec.{ltb, leb}
+use Rattle.tag.specs.Order.{inOrder}
+use Rattle.tag.proofs.Ordering.{byte-most, between-sum}
 use borrow.Author.Needs.{needs}
 use Rattle.tag.proofs.pairs.between.Statement.{statement}
 use Rattle.tag.proofs.pairs.between.Tie as tie
 
+-- The three comparisons.
+abbrev rising : (u v : ℕ) → Bool
+rising u v = ltb (inOrder u .rank) (inOrder v .rank)
+
+abbrev reached : (u v : ℕ) → Bool
+reached u v = leb (inOrder v .rank) (inOrder u .last)
+
+abbrev around : ℕ → Bool
+around u = ltb (inOrder u .last) (inOrder u .rank)
+
 sub-levels : tie.Need-sub-levels
 sub-levels c = search needs
 
-add-result : tie.Need-add-result
-add-result c = omega arith
+cast-rising : tie.Need-cast-rising
+cast-rising c = search needs
 
-returns : tie.Need-returns
-unfolding numbers
-returns c = let d = c .before .before .before in
-    sym (between-rising-near _ _ (d .if1 .taken) (⊎-elim (λ w. inl (w .taken)) (λ w. inr (ltb-true _ _ (w .2 .taken))) (c .if2 .came)))
+cast-reached : tie.Need-cast-reached
+cast-reached c = search needs
+
+cast-around : tie.Need-cast-around
+cast-around c = search needs
+
+add-result : tie.Need-add-result
+add-result c = search needs
 
 add-result-2 : tie.Need-add-result-2
-add-result-2 c = omega arith
-
-returns-2 : tie.Need-returns-2
-unfolding numbers
-returns-2 c = sym (between-rising-far _ _ (c .before .before .before .before .before .if1 .taken) (c .before .before .if2 .left) (ltb-false _ _ (c .if3 .left)))
-
-returns-3 : tie.Need-returns-3
-unfolding numbers
-returns-3 c = let d = c .before .before .before .before .before in
-    sym (between-falling-near _ _ (d .if1 .left) (c .before .before .if4 .taken) (ltb-true _ _ (c .if5 .taken)))
+add-result-2 c = let a = c .args in omega (arith, c .pre .1, byte-most (rising (a .u) (a .v)))
 
 add-result-3 : tie.Need-add-result-3
-add-result-3 c = omega arith
+add-result-3 c = let a = c .args in omega (arith, byte-most (rising (a .u) (a .v)), byte-most (reached (a .u) (a .v)))
 
-returns-4 : tie.Need-returns-4
-unfolding numbers
-returns-4 c = let d = c .before .before .before in
-    sym (between-falling-far _ _ (d .if1 .left) (⊎-elim (λ w. inr (ltb-false _ _ (w .2 .left))) (λ w. inl (w .left)) (c .if4 .came)))
+add-result-4 : tie.Need-add-result-4
+add-result-4 c = let a = c .args in omega (arith, byte-most (rising (a .u) (a .v)), byte-most (reached (a .u) (a .v)), byte-most (around (a .u)))
+
+sub-result : tie.Need-sub-result
+sub-result c = let a = c .args in omega (arith, byte-most (rising (a .u) (a .v)), byte-most (reached (a .u) (a .v)), byte-most (around (a .u)))
+
+cast-result : tie.Need-cast-result
+cast-result c = let a = c .args in omega (arith, c .pre .1, byte-most (rising (a .u) (a .v)))
+
+returns : tie.Need-returns
+returns c = sym (between-sum (inOrder (c .args .u)) (inOrder (c .args .v)))
 
 pub between-spec : {M : Type 1} → statement M
-between-spec = tie.close (tie.spec sub-levels add-result returns add-result-2 returns-2 returns-3 add-result-3 returns-4)
+between-spec =
+    tie.close (tie.spec sub-levels cast-rising cast-reached cast-around add-result add-result-2 add-result-3 add-result-4 sub-result cast-result
+    returns)
