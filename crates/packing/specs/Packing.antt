@@ -2,7 +2,7 @@
 -- which belongs to one variant of one answer in the whole interface; the others are the variant's numbers in paper 01's
 -- order, and 0 where it has fewer.
 -- Vocabulary: packed, packedRefusal, packedValidation, packedBuild, packedReach, packedChain, packedNeighbours, packedSame,
--- packedPair, packedLookup, packedWrite.
+-- packedPair, packedLookup, packedWrite, packedPage.
 use Prim.Native.Nat.{ℕ, _+_, _*_}
 use Rattle.refusals.specs.declared.Refusal.{Refusal}
 use Rattle.plan.specs.declared.questions.Validation.{Validation}
@@ -23,6 +23,8 @@ use Rattle.tag_bytes.specs.declared.tag_file.LookupAnswer.{LookupAnswer}
 use Rattle.tag_bytes.specs.declared.tag_file.LookupAnswer.the-variants as lookup
 use Rattle.tag_bytes.specs.declared.writer.WriteAnswer.{WriteAnswer}
 use Rattle.tag_bytes.specs.declared.writer.WriteAnswer.the-variants as write
+use Rattle.page.specs.declared.PageAnswer.{PageAnswer}
+use Rattle.page.specs.declared.PageAnswer.the-variants as page
 
 -- Four fields of 16 bits, the lowest first.
 abbrev pub packed : (kind first second third : ℕ) → ℕ
@@ -80,3 +82,8 @@ packedLookup (lookup.Refused r) = packedRefusal r
 unfoldable pub packedWrite : WriteAnswer → ℕ
 packedWrite write.Written = packed 11 0 0 0
 packedWrite (write.Refused r) = packedRefusal r
+
+-- Q-4: "A tag file of wrong length refuses the whole page by 9"
+unfoldable pub packedPage : PageAnswer → ℕ
+packedPage page.Filled = packed 12 0 0 0
+packedPage (page.Refused r) = packedRefusal r

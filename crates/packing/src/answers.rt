@@ -1,4 +1,5 @@
 // Each answer as one number of 64 bits: four fields of 16 bits, the kind lowest.
+use page::PageAnswer;
 use path::ChainAnswer;
 use path::NeighboursAnswer;
 use plan::Validation;
@@ -10,7 +11,7 @@ use tag::PairAnswer;
 use tag::WriteAnswer;
 use tree::BuildAnswer;
 ghost use mathlib.Core.Path.{_≡_};
-ghost use Rattle.packing.specs.Packing.{packed, packedRefusal, packedValidation, packedBuild, packedReach, packedChain, packedNeighbours, packedSame, packedPair, packedLookup, packedWrite};
+ghost use Rattle.packing.specs.Packing.{packed, packedRefusal, packedValidation, packedBuild, packedReach, packedChain, packedNeighbours, packedSame, packedPair, packedLookup, packedWrite, packedPage};
 
 fn pack(kind: u16, first: u16, second: u16, third: u16) -> u64
     ensures { λ r. ⌜ r ≡ packed kind first second third ⌝ }
@@ -117,5 +118,14 @@ pub fn pack_write(answer: WriteAnswer) -> u64
     match answer {
         WriteAnswer::Written => pack(11, 0, 0, 0),
         WriteAnswer::Refused(refusal) => pack_refusal(refusal),
+    }
+}
+
+pub fn pack_page(answer: PageAnswer) -> u64
+    ensures { λ r. ⌜ r ≡ packedPage answer ⌝ }
+{
+    match answer {
+        PageAnswer::Filled => pack(12, 0, 0, 0),
+        PageAnswer::Refused(refusal) => pack_refusal(refusal),
     }
 }

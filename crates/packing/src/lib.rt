@@ -5,6 +5,7 @@ pub use answers::pack_build;
 pub use answers::pack_chain;
 pub use answers::pack_lookup;
 pub use answers::pack_neighbours;
+pub use answers::pack_page;
 pub use answers::pack_pair;
 pub use answers::pack_reach;
 pub use answers::pack_same;

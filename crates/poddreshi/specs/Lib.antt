@@ -1,3 +1,4 @@
 -- The C interface: what is left in what is lent to it. What is answered is defined in the crates below, and how it is packed
 -- into a number in `packing`.
 pub mod Lent
+pub mod Pages

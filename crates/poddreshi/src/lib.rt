@@ -1,8 +1,11 @@
 // The C interface. Each call takes numbers and slices alone, is total, and answers with one number of 64 bits, which
 // include/poddreshi.h unpacks.
+mod pages;
 mod plans;
 mod tags;
 
+pub use pages::PackedQuery;
+pub use pages::poddreshi_page;
 pub use plans::poddreshi_build;
 pub use plans::poddreshi_chain;
 pub use plans::poddreshi_neighbours;

@@ -1,0 +1,3 @@
+-- Laws.
+--   Plan12  a page over the worked example as C has it, by computation
+pub mod Plan12
