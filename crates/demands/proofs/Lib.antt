@@ -1,4 +1,4 @@
--- The statements of specs/, proved: Refusals, Tree, EndToEnd (`demand-3`, in Counts), Calls, Short, Cases, Minimum.
+-- The statements of specs/, proved: Refusals, Tree, EndToEnd (`demand-3`, in Counts), Calls, Short, Cases, Minimum, Page.
 --   Refusals  demand 1
 --   Tree      demand 2
 --   Counts    demand 3, of the definitions that the calls answer by
@@ -7,6 +7,7 @@
 --   Short     Q-1: short tags
 --   Cases     the cases marked P, and those of Q-2
 --   Minimum   Q-2: the minimum handover
+--   Page      Q-4: a page of pairs
 pub mod Refusals
 pub mod Tree
 pub mod Counts
@@ -15,3 +16,4 @@ pub mod Calls
 pub mod Short
 pub mod Cases
 pub mod Minimum
+pub mod Page

@@ -23,6 +23,9 @@ use Rattle.tag_bytes.specs.TagFile.{partOf, tagPart, lookupAnswerOf}
 use Rattle.tag_bytes.proofs.TagFile.{part-refused}
 use Rattle.tag.specs.Pairing.{answerOf, pairAnswerOf, pairAtAnswerOf}
 use Rattle.short_tag.specs.ShortPairing.{shortPairAnswerOf, shortPairAtAnswerOf}
+use Rattle.page.specs.declared.PageAnswer.the-variants as PageAnswer
+use Rattle.page.specs.Page.{queryQuestions, pageAnswerOf, ifFilled, afterPage}
+use Rattle.page.proofs.Filled.{query-asked}
 use Rattle.numbering.specs.declared.answers.BuildAnswer.the-variants as BuildAnswer
 use Rattle.reaching.specs.declared.ReachAnswer.the-variants as ReachAnswer
 use Rattle.minutes.specs.declared.answers.TableAnswer.the-variants as TableAnswer
@@ -73,11 +76,16 @@ same-found : (b : mathlib.Core.Bool.Bool) (r : Refusal) → cond b SameAnswer.Sa
 same-found true r e = let z : _≡_ {A = ℕ} 0 1 = cc in omega arith
 same-found false r e = let z : _≡_ {A = ℕ} 0 1 = cc in omega arith
 
+-- An answer that is the same refuses the same.
+refuses-as : {A : Type 0} {qs : List Question} {refused : Refusal → A} {answer other : A} → answer ≡ other → Refuses qs refused answer →
+    Refuses qs refused other
+refuses-as e by r = (λ f. by r .0 (e ∙ f), λ m. sym e ∙ by r .1 m)
+
 pub demand-1 : Demand1
 unfolding validateAnswerOf numbersAnswerOf buildAnswerOf tagsAnswerOf tableAnswerOf reachAnswerOf chainAnswerOf neighboursAnswerOf sameAnswerOf
     readAnswerOf writeAnswerOf lookupAnswerOf pairAnswerOf pairAtAnswerOf afterBuild afterTags afterTable afterChain afterNeighbours
     afterWrite shortTagsAnswerOf evenTableAnswerOf shortReadAnswerOf shortWriteAnswerOf shortPairAnswerOf shortPairAtAnswerOf afterShortTags
-    afterShortWrite
+    afterShortWrite pageAnswerOf ifFilled afterPage queryQuestions
 demand-1 =
     record {
       validating = λ file. refuses Validation.Refused _ (λ r s e. cc) (λ r e. let z : _≡_ {A = ℕ} 0 1 = cc in omega arith) _;
@@ -103,6 +111,9 @@ demand-1 =
           (outcome-answered (shortOutcome (shortNumbers (shortTagOf first)) (shortNumbers (shortTagOf second)))) _;
       short-pairing-at = λ tags first second. refuses PairAnswer.Refused _ (λ r s e. cc) (outcome-answered (shortOutcome
           (shortNumbers (shortTagOf (partOf shortLength tags first))) (shortNumbers (shortTagOf (partOf shortLength tags second))))) _;
+      paging = λ tags. refuses PageAnswer.Refused _ (λ r s e. cc) (λ r e. let z : _≡_ {A = ℕ} 0 1 = cc in omega arith) _;
+      querying = λ tags first second. refuses-as (sym (query-asked tags first second)) (refuses PairAnswer.Refused _ (λ r s e. cc)
+          (outcome-answered (outcome (numbers (tagOf (tagPart tags first))) (numbers (tagOf (tagPart tags second))))) _);
       build-untouched = λ r f before. refl;
       tags-untouched = λ r f before. refl;
       short-tags-untouched = λ r f before. refl;
@@ -111,5 +122,6 @@ demand-1 =
       neighbours-untouched = λ r neighbours before. refl;
       write-untouched = λ r n before. refl;
       short-write-untouched = λ r n before. refl;
+      page-untouched = λ r tags before. refl;
       lookup-empty = λ tags at r e. part-refused tags at r e;
     }

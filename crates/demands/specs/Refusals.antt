@@ -9,7 +9,7 @@ use Rattle.refusals.specs.{declared.Refusal.Refusal, Question.Question}
 use Rattle.plan.specs.Validation.{planQuestions, validateAnswerOf}
 use Rattle.plan.specs.declared.questions.Validation.the-variants as Validation
 use Rattle.tag_bytes.specs.{Reading.readQuestions, Reading.readAnswerOf, Writing.writeQuestions, Writing.writeAnswerOf, Writing.afterWrite}
-use Rattle.tag_bytes.specs.TagFile.{lookupQuestions, lookupAnswerOf, lookupPart}
+use Rattle.tag_bytes.specs.TagFile.{tagFileQuestion, lookupQuestions, lookupAnswerOf, lookupPart}
 use Rattle.tag_bytes.specs.{declared.reader.ShortTag.ShortTag, Reading.shortReadQuestions, Reading.shortReadAnswerOf}
 use Rattle.tag_bytes.specs.{Writing.shortWriteQuestions, Writing.shortWriteAnswerOf, Writing.afterShortWrite}
 use Rattle.tag_bytes.specs.declared.reader.TagRead.the-variants as TagRead
@@ -19,6 +19,8 @@ use Rattle.tag_bytes.specs.declared.tag_file.LookupAnswer.the-variants as Looku
 use Rattle.tag.specs.Pairing.{pairQuestions, pairAnswerOf, pairAtQuestions, pairAtAnswerOf}
 use Rattle.short_tag.specs.ShortPairing.{shortPairQuestions, shortPairAnswerOf, shortPairAtQuestions, shortPairAtAnswerOf}
 use Rattle.tag.specs.declared.pairs.PairAnswer.the-variants as PairAnswer
+use Rattle.page.specs.{declared.Query.Query, Page.queryQuestions, Page.queryAnswerOf, Page.pageAnswerOf, Page.afterPage}
+use Rattle.page.specs.declared.PageAnswer.the-variants as PageAnswer
 use Rattle.minutes.specs.SingleTable.{tableQuestions, tableAnswerOf, afterTable}
 use Rattle.minutes.specs.EvenTable.{evenTableQuestions, evenTableAnswerOf}
 use Rattle.minutes.specs.declared.answers.TableAnswer.the-variants as TableAnswer
@@ -76,6 +78,9 @@ pub record Demand1 : Type 0 where
       (first second : List ℕ) → Refuses (shortPairQuestions first second) PairAnswer.Refused (shortPairAnswerOf first second)
   pub short-pairing-at :
       (tags : List ℕ) (u v : ℕ) → Refuses (shortPairAtQuestions tags u v) PairAnswer.Refused (shortPairAtAnswerOf tags u v)
+  -- On a page (paper 02, Q-4): the whole of it, and each record by itself.
+  pub paging : (tags : List ℕ) → Refuses (tagFileQuestion tags ∷ []) PageAnswer.Refused (pageAnswerOf tags)
+  pub querying : (tags : List ℕ) (u v : ℕ) → Refuses (queryQuestions tags u v) PairAnswer.Refused (queryAnswerOf tags u v)
   -- A refusal leaves every lent table as it was.
   pub build-untouched : (r : Refusal) (f : ℕ → ℕ) (before : List ℕ) → afterBuild (BuildAnswer.Refused r) f before ≡ before
   pub tags-untouched : (r : Refusal) (f : ℕ → Numbers) (before : List ℕ) → afterTags (BuildAnswer.Refused r) f before ≡ before
@@ -85,5 +90,6 @@ pub record Demand1 : Type 0 where
   pub neighbours-untouched : (r : Refusal) (l before : List ℕ) → afterNeighbours (NeighboursAnswer.Refused r) l before ≡ before
   pub write-untouched : (r : Refusal) (n : Numbers) (before : List ℕ) → afterWrite (WriteAnswer.Refused r) n before ≡ before
   pub short-write-untouched : (r : Refusal) (t : ShortTag) (before : List ℕ) → afterShortWrite (WriteAnswer.Refused r) t before ≡ before
+  pub page-untouched : (r : Refusal) (tags : List ℕ) (before : List Query) → afterPage (PageAnswer.Refused r) tags before ≡ before
   -- "A refused lookup hands back an empty part".
   pub lookup-empty : (tags : List ℕ) (at : ℕ) (r : Refusal) → lookupAnswerOf tags at ≡ LookupAnswer.Refused r → lookupPart tags at ≡ []
