@@ -41,7 +41,7 @@
 #define PODDRESHI_H
 
 /* The version of the library that this header belongs to. */
-#define PODDRESHI_VERSION "2.0.1"
+#define PODDRESHI_VERSION "2.1.0"
 
 #include <stddef.h>
 #include <stdint.h>
@@ -63,7 +63,8 @@ enum {
     PODDRESHI_DIFFERENT = 8,
     PODDRESHI_HANDOVERS = 9,
     PODDRESHI_FOUND = 10,
-    PODDRESHI_WRITTEN = 11
+    PODDRESHI_WRITTEN = 11,
+    PODDRESHI_FILLED = 12
 };
 
 enum {
@@ -132,6 +133,19 @@ uint64_t poddreshi_pair(const uint8_t *first, size_t first_length, const uint8_t
  * HANDOVERS or NO_CHAIN, as a pair answers. */
 uint64_t poddreshi_pair_at(const uint8_t *tags, size_t tags_length, size_t first, size_t second);
 
+/* One pair of a page: two positions, and the place for its answer. */
+struct poddreshi_query {
+    size_t first;
+    size_t second;
+    uint64_t answer;
+};
+
+/* Fills every record of a page from a tag file. Question 9 of the tag file; where it is refused, no record is touched.
+ * FILLED: each record's answer is what poddreshi_pair_at says of its two positions, whatever stood there before: HANDOVERS,
+ *     NO_CHAIN or a refusal, by 7 for the first position and then the second, or by those of the pair. Its positions stay. A
+ *     record that is refused is no refusal of the page and spoils no other. */
+uint64_t poddreshi_page(const uint8_t *tags, size_t tags_length, struct poddreshi_query *queries, size_t queries_length);
+
 /* The answer from two short tags alone. Questions 9 and 10 for the first tag, then for the second, then 11 and 12.
  * HANDOVERS: the least number of handovers between the two windows, for the tags that poddreshi_short_tags writes.
  * NO_CHAIN: no chain joins the two windows. */
@@ -155,7 +169,7 @@ uint64_t poddreshi_write(uint16_t plan, uint16_t component, uint16_t depth, uint
  * WRITTEN: the first eight bytes of out are the four numbers, two bytes each, the lowest first. */
 uint64_t poddreshi_short_write(uint16_t plan, uint16_t component, uint16_t depth, uint16_t rank, uint8_t *out, size_t out_length);
 
-/* An answer taken apart. */
+/* An answer taken apart, that of a call or of a record. */
 static inline unsigned poddreshi_field(uint64_t answer, unsigned field) {
     return (unsigned)(answer >> (16 * field) & 0xffff);
 }

@@ -8,6 +8,14 @@
     >>> print(poddreshi.pair(tags[40:50], tags[50:60]))
     1 handover
 
+Many pairs of one tag file are answered in one call. One that is refused has its refusal for an answer, and spoils no other.
+
+    >>> for answer in poddreshi.page(tags, [(1, 5), (5, 6), (5, 7)]):
+    ...     print(answer)
+    3 handovers
+    no chain
+    refused by question 7: there is no window 7: the tag file has 7 tags, 0 to 6
+
 Two windows overlap when they share at least the plan's minimum handover, which is 1 minute where none is given.
 
     >>> bolting = poddreshi.pack(21, [(0, 60), (20, 90), (50, 70)], minimum=30)
@@ -20,12 +28,13 @@ Where no window of a plan ends before the one ahead of it, short tags of eight b
     >>> poddreshi.short_pair_at(poddreshi.short_tags(even).tags, 1, 4)
     Handovers(count=2)
 
-A plan, a tag and a tag file are bytes, a bytearray or a memoryview. A refusal is raised as Refused. The library is loaded at
-the first call, from the built checkout or the installed tree that the package stands in, or from PODDRESHI_LIBRARY.
+A plan, a tag and a tag file are bytes, a bytearray or a memoryview. A refusal is raised as Refused, but for those of the pairs
+of a page. The library is loaded at the first call, from the built checkout or the installed tree that the package stands in,
+or from PODDRESHI_LIBRARY.
 """
 from ._version import __version__
 from .calls import Accepted, Chain, Handovers, Neighbours, Reach, Sameness, ShortTag, Tag, Tags, Tree
-from .calls import build, chain, lookup, neighbours, pair, pair_at, reach, read, same, tags, validate, write
+from .calls import build, chain, lookup, neighbours, page, pair, pair_at, reach, read, same, tags, validate, write
 from .calls import short_lookup, short_pair, short_pair_at, short_read, short_tags, short_write
 from .library import LibraryMissing
 from .oldplans import renewed
@@ -34,7 +43,7 @@ from .refusals import Refused
 
 __all__ = [
     *("Accepted", "Chain", "Handovers", "LibraryMissing", "Neighbours", "Reach", "Refused", "Sameness", "ShortTag", "Tag"),
-    *("Tags", "Tree", "Window", "__version__", "build", "chain", "lookup", "minimum_of", "neighbours", "pack", "pair"),
+    *("Tags", "Tree", "Window", "__version__", "build", "chain", "lookup", "minimum_of", "neighbours", "pack", "page", "pair"),
     *("pair_at", "reach", "read", "renewed", "same", "short_lookup", "short_pair", "short_pair_at", "short_read", "short_tags"),
     *("short_write", "tags", "validate", "windows_of", "write"),
 ]

@@ -1,14 +1,16 @@
-"""The calls of the library, each with an answer that has a text form. A refusal is raised as Refused.
+"""The calls of the library, each with an answer that has a text form. A refusal is raised as Refused, but for those of the
+pairs of a page.
 
 A plan, a tag and a tag file are bytes, a bytearray or a memoryview. Everything is decided in the library. What long and short
 tags share is written once, for tags of a form that is given; the calls whose names begin with short_ give the short one.
 """
-from typing import NamedTuple, Optional, Tuple, Union
+from functools import lru_cache
+from typing import Iterable, List, NamedTuple, Optional, Tuple, Union
 
 from . import library
 from .figures import PLAN_NUMBER_LIMIT, TAG_LENGTH, WINDOWS_LIMIT
-from .library import Kind, lend, position, room, table
-from .refusals import Asked, refusal
+from .library import Kind, lend, lend_records, position, records, room, table, taken_apart
+from .refusals import Asked, Refused, refusal
 from .tagforms import LONG, SHORT, ShortTag, Tag, TagForm
 from .wording import counted
 
@@ -100,13 +102,17 @@ class Sameness(NamedTuple):
         return "same" if self.same else "different"
 
 
-def _ask(name: str, asked: Asked, *arguments) -> Tuple[Kind, list]:
-    kind, numbers = library.ask(name, *arguments)
-    if kind is not Kind.REFUSED:
-        return kind, numbers
+def _worded(numbers: list, asked: Asked) -> Refused:
     if asked.tag_file is not None and numbers[0] > 9:  # a refusal of the tags that stand at the positions
         asked = Asked(tags=[asked.form.at(asked.tag_file, at) for at in asked.positions], form=asked.form)
-    raise refusal(*numbers, asked)
+    return refusal(*numbers, asked)
+
+
+def _ask(name: str, asked: Asked, *arguments) -> Tuple[Kind, list]:
+    kind, numbers = library.ask(name, *arguments)
+    if kind is Kind.REFUSED:
+        raise _worded(numbers, asked)
+    return kind, numbers
 
 
 def validate(file) -> Accepted:
@@ -171,6 +177,29 @@ def pair_at(tags, first: int, second: int, form: TagForm = LONG) -> Handovers:
     file, length = lend(tags)
     asked = Asked(tag_file=file, positions=[first, second], form=form)
     return _handovers(*_ask(form.prefix + "pair_at", asked, file, length, position(first), position(second)))
+
+
+@lru_cache(maxsize=4096)  # there are 2,051 that are no refusal
+def _answer_of(record: int) -> Optional[Handovers]:
+    """What stands in a record of a page, or None for a refusal."""
+    kind, numbers = taken_apart(record)
+    return None if kind is Kind.REFUSED else _handovers(kind, numbers)
+
+
+def page(tags, pairs: Iterable[Tuple[int, int]]) -> List[Union[Handovers, Refused]]:
+    """The same for many pairs of positions, in one call: an answer for each pair, in their order. A refusal of two positions or of
+    their tags, which pair_at raises, stands in the pair's place as a Refused that is not raised, and spoils no other answer. A tag
+    file of wrong length is refused as a whole, and that is raised."""
+    file, length = lend(tags)
+    numbers = [number for first, second in pairs for number in (first, second, 0)]
+    filled = records(numbers)
+    _ask("page", Asked(tag_file=file), file, length, *lend_records(filled))
+    answers = filled[2::3]
+    known = {answer: _answer_of(answer) for answer in set(answers)}
+    return [  # a Handovers is true, also of 0
+        known[answer] or _worded(taken_apart(answer)[1], Asked(tag_file=file, positions=numbers[at : at + 2]))
+        for at, answer in zip(range(0, len(numbers), 3), answers)
+    ]
 
 
 def lookup(tags, at: int) -> bytes:

@@ -1,5 +1,6 @@
 """The C interface (poddreshi.h) by ctypes: each call's arguments stand once, in CALLS."""
 import ctypes
+from array import array
 from enum import IntEnum
 from functools import lru_cache
 from typing import List, Tuple
@@ -9,6 +10,15 @@ from . import figures, places
 _READ = (ctypes.c_void_p, ctypes.c_size_t)  # bytes lent to be read
 _BYTES = (ctypes.POINTER(ctypes.c_uint8), ctypes.c_size_t)  # bytes lent to be written
 _TABLE = (ctypes.POINTER(ctypes.c_uint16), ctypes.c_size_t)  # numbers lent to be written
+
+
+class Query(ctypes.Structure):
+    """A record of a page, as poddreshi.h has it."""
+
+    _fields_ = [("first", ctypes.c_size_t), ("second", ctypes.c_size_t), ("answer", ctypes.c_uint64)]
+
+
+_PAGE = (ctypes.POINTER(Query), ctypes.c_size_t)  # records lent to be filled
 _AT = (ctypes.c_size_t,)
 _FIELD = (ctypes.c_uint16,)
 
@@ -22,6 +32,7 @@ CALLS = {
     "same": 2 * _READ,
     "pair": 2 * _READ,
     "pair_at": _READ + 2 * _AT,
+    "page": _READ + _PAGE,
     "lookup": _READ + _AT + (ctypes.POINTER(ctypes.c_size_t),),
     "write": 5 * _FIELD + _BYTES,
     "short_tags": _READ + _BYTES,
@@ -32,7 +43,7 @@ CALLS = {
 
 
 # What the first field of an answer says, from 0.
-_KINDS = "REFUSED ACCEPTED BUILT REACH CHAIN NO_CHAIN NEIGHBOURS SAME DIFFERENT HANDOVERS FOUND WRITTEN"
+_KINDS = "REFUSED ACCEPTED BUILT REACH CHAIN NO_CHAIN NEIGHBOURS SAME DIFFERENT HANDOVERS FOUND WRITTEN FILLED"
 Kind = IntEnum("Kind", _KINDS, start=0)
 
 
@@ -61,11 +72,15 @@ def _hint() -> str:
     return "run ./poddreshi build" if places.checkout() else "install it, or name it in PODDRESHI_LIBRARY"
 
 
-def ask(name: str, *arguments) -> Tuple[Kind, List[int]]:
-    """The kind of a call's answer and its three other fields."""
-    answer = getattr(_library(), "poddreshi_" + name)(*arguments)
+def taken_apart(answer: int) -> Tuple[Kind, List[int]]:
+    """The kind of an answer, that of a call or of a record, and its three other fields."""
     kind, *numbers = ((answer >> (16 * field)) & 0xFFFF for field in range(4))
     return Kind(kind), numbers
+
+
+def ask(name: str, *arguments) -> Tuple[Kind, List[int]]:
+    """The answer of a call, taken apart."""
+    return taken_apart(getattr(_library(), "poddreshi_" + name)(*arguments))
 
 
 def lend(data) -> tuple:
@@ -94,3 +109,18 @@ def position(at: int) -> int:
     if at < 0:
         raise ValueError("a position is a number from 0")
     return min(at, figures.POSITION_LIMIT)
+
+
+def records(numbers: List[int]) -> array:
+    """The records of a page as C has them, in one piece, from three numbers for each: two positions and the place for an
+    answer. All are taken at once where they fit, since one by one takes several times as long."""
+    try:
+        return array("Q", numbers)
+    except OverflowError:  # one is negative, or has more than 64 bits
+        return array("Q", map(position, numbers))
+
+
+def lend_records(page: array) -> tuple:
+    """Records to be filled, and how many."""
+    count = len(page) // len(Query._fields_)
+    return (Query * count).from_buffer(page), count

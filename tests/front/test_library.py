@@ -8,6 +8,7 @@ import subprocess
 import sys
 import tempfile
 import unittest
+from array import array
 from ctypes.util import find_library
 
 from support import PLAN_12, PYTHON, ROOT, TAGS_12, plan, refusal
@@ -110,13 +111,21 @@ class Interface(unittest.TestCase):
     def test_every_call_of_the_header(self):
         found = dict(re.findall(r"^uint64_t poddreshi_(\w+)\(([^;]*)\);", self.HEADER, re.M | re.S))
         self.assertEqual(set(library.CALLS), set(found))
-        sizes = {"uint8_t *": ctypes.c_void_p, "uint16_t *": ctypes.c_void_p, "size_t *": ctypes.c_void_p}
+        lent = ("uint8_t", "uint16_t", "size_t", "struct poddreshi_query")
+        sizes = {f"{kind} *": ctypes.c_void_p for kind in lent}
         for name, arguments in found.items():
             for declared, here in zip(re.split(r",\s*", arguments), library.CALLS[name]):
                 kind = re.sub(r"\w+$", "", declared.replace("const ", "")).strip()
                 wanted = sizes.get(kind, {"size_t": ctypes.c_size_t, "uint16_t": ctypes.c_uint16}.get(kind))
                 self.assertEqual(ctypes.sizeof(here), ctypes.sizeof(wanted), (name, declared))
             self.assertEqual(len(re.split(r",\s*", arguments)), len(library.CALLS[name]), name)
+
+    def test_the_record_of_the_header(self):
+        (fields,) = re.findall(r"^struct poddreshi_query \{\n(.*?)^\};", self.HEADER, re.M | re.S)
+        sizes = {"size_t": ctypes.c_size_t, "uint64_t": ctypes.c_uint64}
+        declared = [(name, sizes[kind]) for kind, name in re.findall(r"(\w+) (\w+);", fields)]
+        self.assertEqual(declared, library.Query._fields_)
+        self.assertEqual(ctypes.sizeof(library.Query), len(declared) * array("Q").itemsize)  # as the numbers of a page are laid out
 
     def test_every_kind_of_the_header(self):
         found = dict(re.findall(r"PODDRESHI_([A-Z_]+) = (\d+),?$", self.HEADER, re.M))
@@ -164,7 +173,7 @@ class Interface(unittest.TestCase):
         before = os.getcwd()
         os.chdir(ROOT)
         self.addCleanup(os.chdir, before)
-        self.assertEqual(doctest.testmod(poddreshi), (0, 9))
+        self.assertEqual(doctest.testmod(poddreshi), (0, 10))
 
 
 if __name__ == "__main__":
