@@ -8,13 +8,15 @@ import stat
 import sys
 import tempfile
 from pathlib import Path
-from typing import Iterator, Optional
+from typing import Iterable, Iterator, Optional, Union
 
 from .failures import Failure
 
 _STREAMS = ("/dev/std", "/dev/fd/", "/proc/")
 _BESIDE = ".poddreshi."  # how the name of a file or folder begins that is not yet whole
 _closed = set()
+
+Data = Union[bytes, Iterable[bytes]]  # what is written: whole, or in parts that are made as they are written
 
 
 def hold_standard_streams() -> None:
@@ -69,15 +71,20 @@ def read_whole(name: str, limit: int, thing: str) -> bytes:
     return data
 
 
-def _write_all(descriptor: int, data: bytes, to_disk: bool = False) -> None:
+def _write_part(descriptor: int, part: bytes) -> None:
+    rest = memoryview(part)
+    while rest:
+        try:
+            rest = rest[os.write(descriptor, rest) :]
+        except BlockingIOError:  # whoever opened the pipe does not wait for it; we do
+            select.select([], [descriptor], [])
+
+
+def _write_all(descriptor: int, data: Data, to_disk: bool = False) -> None:
     """Writes to the last byte, and closes."""
-    rest = memoryview(data)
     try:
-        while rest:
-            try:
-                rest = rest[os.write(descriptor, rest) :]
-            except BlockingIOError:  # whoever opened the pipe does not wait for it; we do
-                select.select([], [descriptor], [])
+        for part in [data] if isinstance(data, bytes) else data:
+            _write_part(descriptor, part)
         if to_disk:
             os.fsync(descriptor)
     finally:
@@ -94,7 +101,7 @@ def _mode(path: Path) -> int:
         return 0o666 & ~mask
 
 
-def replace(path: Path, data: bytes, mode: Optional[int] = None) -> None:
+def replace(path: Path, data: Data, mode: Optional[int] = None) -> None:
     """Writes a file beside and renames it, so that the old one stays until the new one is whole."""
     descriptor, beside = tempfile.mkstemp(prefix=_BESIDE, dir=path.parent)
     try:
@@ -107,7 +114,7 @@ def replace(path: Path, data: bytes, mode: Optional[int] = None) -> None:
         raise
 
 
-def write(name: Optional[str], data: bytes) -> None:
+def write(name: Optional[str], data: Data) -> None:
     """To a file, or to standard output for None and `-`. A pipe or a device is written to as it is."""
     try:
         if name is None or name == "-":

@@ -26,14 +26,16 @@ class Reply(NamedTuple):
         return self.text if self.text.endswith("\n") or not self.text else self.text + "\n"
 
     def _csv(self) -> str:
-        out = io.StringIO()
-        writer = csv.writer(out, lineterminator="\n")
-        writer.writerow(self.header)
-        writer.writerows(self.rows)
-        return out.getvalue()
+        return csv_lines([self.header, *self.rows])
 
     def _json(self) -> str:
         return json.dumps(self.data, ensure_ascii=False, indent=2) + "\n"
+
+
+def csv_lines(rows: Sequence[Sequence]) -> str:
+    out = io.StringIO()
+    csv.writer(out, lineterminator="\n").writerows(rows)
+    return out.getvalue()
 
 
 def aligned(rows: Sequence[Sequence[str]], right: Sequence[int] = (), between: str = "  ") -> str:
