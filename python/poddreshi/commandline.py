@@ -21,8 +21,8 @@ from .texts import Faulty
 from .times import Clock
 from .wording import cited
 
-DESCRIPTION = """Service windows, their distance tree and ten-byte tags. PLAN, OLD, TEXT, TAGS, TAG and RIGS are files, or - for
-standard input."""
+DESCRIPTION = """Service windows, their distance tree and ten-byte tags. PLAN, OLD, TEXT, TAGS, TAG, PAIRS and RIGS are files, or
+- for standard input."""
 STATUS = """The exit status is 0 for an answer, 1 where an input is refused, 2 where the command is mistaken and 3 where an input
 or an output failed. With --exit-code it is 4 for the answers "no chain" and "different". A refusal goes to standard error in
 words."""

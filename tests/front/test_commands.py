@@ -241,6 +241,7 @@ class Commands(Case):
         """Whatever an input holds, the status is one of those that the help names, and what is said is no traceback."""
         generator = random.Random(5)
         names = self.file("any", generator.randbytes(200))
+        pairs = self.file("pairs", "0 1\n5 6\n")
         plan_12, tags_12 = list(PLAN_12), list(TAGS_12)
         for case in range(15):
             altered = bytearray(generator.choice([plan_12, tags_12, b"0 10\n2 3 x\n# c\n4 12\n", b"offset,length\n1,2\n"]))
@@ -253,6 +254,7 @@ class Commands(Case):
                 *(("count", "-", 0, "--all"), ("explain", "-"), ("plan", 7, "-", "--sort"), ("chains", self.plan, "-", "--html")),
                 *(("chain", self.plan, 0, 1, "--names", "-"), ("chain", "-", 0, 1, "--names", names), ("list", "-", "--csv")),
                 *(("tags", "-", "--short"), ("count", "-", 0, "--all", "--short"), ("explain", "-", "--short")),
+                *(("page", "-", "--all"), ("page", self.tags, "-", "--json"), ("page", "-", pairs, "--csv")),
             ):
                 done = self.run_front(*words, stdin=bytes(altered))
                 self.assertIn(done.returncode, (0, 1), (words, bytes(altered), done.stderr))

@@ -1,12 +1,12 @@
-"""tags, tag, explain, count: tag files, tags, and the answer from two of them."""
+"""tags, tag, explain, count, page: tag files, tags, and the answer from two of them, once or for many pairs."""
 import contextlib
 from pathlib import Path
 from typing import Iterator, Optional, Sequence
 
-from .. import calls, files
-from ..commandline import OUTPUT, PLAN, command, exit_code, forms, number, once, option, word
+from .. import calls, files, pairs
+from ..commandline import OUTPUT, PLAN, command, exit_code, forms, number, once, option, reading, word
 from ..failures import Failure, Mistake
-from ..figures import PLAN_LIMIT, TAGS_LIMIT
+from ..figures import PLAN_LIMIT, TAGS_LIMIT, TEXT_LIMIT
 from ..refusals import Refused
 from ..replies import Reply, aligned
 from ..tagforms import LONG, SHORT, TagForm
@@ -32,7 +32,7 @@ def _one_tag(name: str) -> bytes:
     return files.read(name, LONG.length)
 
 
-def _hint(form: TagForm, inputs: Sequence[bytes], at_fault: int) -> str:
+def _hint(form: TagForm, inputs: Sequence[bytes], at_fault: int, advice: str) -> str:
     """What an input that was refused may be, judged by its length: nothing in a tag says of which form it is."""
     other = LONG if form is SHORT else SHORT
     length = len(inputs[at_fault])
@@ -40,16 +40,16 @@ def _hint(form: TagForm, inputs: Sequence[bytes], at_fault: int) -> str:
         return ""
     if any(len(each) == form.length for each in inputs):
         return " (one may be a short tag and the other not: a pair takes two of one form)"
-    return f" ({counted(length, 'byte')} may be {counted(length // other.length, other.thing)}: {_ADVICE[other]})"
+    return f" ({counted(length, 'byte')} may be {counted(length // other.length, other.thing)}: {advice or _ADVICE[other]})"
 
 
 @contextlib.contextmanager
-def _hinting(form: TagForm, *inputs: bytes) -> Iterator[None]:
-    """Adds the hint to a refusal of two tags, or of a tag or a tag file."""
+def _hinting(form: TagForm, *inputs: bytes, advice: str = "") -> Iterator[None]:
+    """Adds the hint to a refusal of two tags, or of a tag or a tag file. A command that has no --short gives other advice."""
     try:
         yield
     except Refused as no:
-        hint = _hint(form, inputs, min(no.input, len(inputs) - 1))  # input 1 may be the second position in one file
+        hint = _hint(form, inputs, min(no.input, len(inputs) - 1), advice)  # input 1 may be the second position in one file
         raise Refused(no.number, no.input, no.position, no.words + hint) from None
 
 
@@ -195,4 +195,39 @@ def _count_all(tags: bytes, first: int, form: TagForm) -> Reply:
     return Reply(aligned(shown, right=(0,)), header, rows, {"first": first, "counts": data}, otherwise=apart, faults=faults)
 
 
-COMMANDS = [_tags, _tag, _explain, _count]
+@command(
+    "page",
+    "the least numbers of handovers for many pairs of a tag file, a line for each pair",
+    [
+        word("tags", "a tag file"),
+        word("pairs", "lines of two positions; without it, or for -, standard input", nargs="?"),
+        option("--all", action="store_true", help="every position of the tag file beside every position, in place of PAIRS"),
+        *(exit_code("no chain"), forms()),
+    ],
+    [
+        "poddreshi page plan-12.tags examples/pairs.txt",
+        "poddreshi page plan-12.tags --all --csv -o plan-12.csv",
+        "echo 1 5 | poddreshi page plan-12.tags",
+    ],
+    "A line of PAIRS has two positions with blanks between them, and what follows a # is left out; or PAIRS is CSV with the "
+    "header `first,second`. A line that is wrong is named, and then no pair is answered. A pair that is refused has its refusal "
+    "for an answer and spoils no other; the exit status is still 0. With --all each position has the rows of `count TAGS FIRST "
+    "--all`, its own among them; they are written as they are answered.",
+    usage="\n       ".join(f"%(prog)s [options] {form}" for form in ("TAGS [PAIRS]", "TAGS --all")),
+)
+def _page(args) -> pairs.Answers:
+    if args.all and args.pairs is not None:
+        raise Mistake("page takes a list of pairs or --all, not both")
+    source = "-" if args.pairs is None else args.pairs
+    if not args.all:
+        once(args.tags, source)
+    tags = _tag_file(args.tags, LONG)
+    with _hinting(LONG, tags, advice="a page takes none"):
+        calls.page(tags, [])  # so that a tag file of wrong length is refused before a line is written
+    if args.all:
+        return pairs.Answers.of_all(tags)
+    with reading(source):
+        return pairs.Answers.of(tags, pairs.read(files.read_whole(source, TEXT_LIMIT, "list of pairs")))
+
+
+COMMANDS = [_tags, _tag, _explain, _count, _page]
