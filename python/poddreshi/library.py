@@ -74,8 +74,7 @@ def _hint() -> str:
 
 def taken_apart(answer: int) -> Tuple[Kind, List[int]]:
     """The kind of an answer, that of a call or of a record, and its three other fields."""
-    kind, *numbers = ((answer >> (16 * field)) & 0xFFFF for field in range(4))
-    return Kind(kind), numbers
+    return Kind(answer & 0xFFFF), [answer >> 16 & 0xFFFF, answer >> 32 & 0xFFFF, answer >> 48]
 
 
 def ask(name: str, *arguments) -> Tuple[Kind, List[int]]:
