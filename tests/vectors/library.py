@@ -1,9 +1,10 @@
 """The compiled library by its C interface (include/poddreshi.h), with the calls as methods that reader.Reader has."""
 import ctypes
+from array import array
 
 from reader import Refused
 
-REFUSED, NO_CHAIN, SAME = 0, 5, 7
+REFUSED, NO_CHAIN, SAME, HANDOVERS, FILLED = 0, 5, 7, 9, 12
 WORD, TABLE = ctypes.c_size_t, {list: ctypes.c_uint16, bytearray: ctypes.c_uint8}
 
 
@@ -80,6 +81,21 @@ class Library:
 
     def short_pair_at(self, tags, first, second):
         return self.count("short_pair_at", tags, WORD(first), WORD(second))
+
+    def page(self, tags, pairs):
+        """What stands in each record of a page afterwards: its two positions, and the answer as vectors have it."""
+        numbers = array("Q", [number for pair in pairs for number in (*pair, 2**64 - 1)])
+        before, lent = numbers[:], (ctypes.c_uint64 * len(numbers)).from_buffer(numbers)
+        try:
+            assert self.ask("page", tags, lent, WORD(len(pairs))) == (FILLED, [0, 0, 0])
+        except Refused:
+            assert numbers == before
+            raise
+        return [(first, second, self.answer(packed)) for first, second, packed in zip(*(numbers[at::3] for at in range(3)))]
+
+    def answer(self, packed):
+        kind, *fields = (packed >> 16 * field & 0xFFFF for field in range(4))
+        return {REFUSED: ("refused", *fields), NO_CHAIN: ("no_chain",), HANDOVERS: ("handovers", fields[0])}[kind]
 
     def chain(self, file, first, second, out):
         return self.count("chain", file, WORD(first), WORD(second), out)

@@ -14,7 +14,7 @@ import unittest
 from collections import Counter, defaultdict
 
 from library import Library
-from reader import Reader
+from reader import Reader, Refused
 from vectors import CALLS, DOCS, FOLDER, Malformed, all_vectors, bytes_of_rows, parse_file, parse_vector, passes, said
 from vectors import without_comment, words_of
 from wrong_minimum_readers import WRONG
@@ -109,6 +109,23 @@ class Readers(unittest.TestCase):
             self.assertTrue(passes(library, vector), failure(library, vector))
         self.assertEqual([call for call in CALLS if not library.has(call)], NOT_IN_C)
         print(f"vectors: the library passes {len(expressible)}; not in its C interface: {', '.join(NOT_IN_C)}")
+
+    def test_the_library_answers_pages_of_the_vectors_of_pair_at(self):
+        if "PODDRESHI_LIBRARY" not in os.environ:
+            self.skipTest("PODDRESHI_LIBRARY is not set")
+        library, pages = Library(os.environ["PODDRESHI_LIBRARY"]), defaultdict(list)
+        for vector in VECTORS:
+            if vector.call == "pair_at":
+                tags, first, second = vector.arguments
+                pages[tags].append((first, second, vector.answer))
+        for tags, due in pages.items():
+            pairs = [row[:2] for row in due]
+            if len(tags) % 10 == 0:
+                self.assertEqual(library.page(tags, pairs), due)
+                continue
+            with self.assertRaises(Refused) as caught:
+                library.page(tags, pairs)
+            self.assertEqual({("refused", *caught.exception.args)}, {row[2] for row in due})
 
 
 class Document(unittest.TestCase):
