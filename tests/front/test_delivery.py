@@ -49,6 +49,7 @@ class Installed(Case):
         (self.folder / "command").symlink_to(self.tree / "bin" / "poddreshi")
         linked = {"front": self.folder / "command", "environment": self.bare}
         self.assertEqual(self.answers("count", "-", 4, 5, stdin=TAGS_12, **linked), b"1 handover\n")
+        self.assertEqual(self.there("page", self.file("12.tags", TAGS_12), stdin=b"5 6\n"), b"5  6  no chain\n")
 
     def test_the_package_alone(self):
         code = "import poddreshi, sys; print(poddreshi.chain(sys.stdin.buffer.read(), 1, 5), poddreshi.__file__)"
@@ -56,16 +57,21 @@ class Installed(Case):
         done = subprocess.run([sys.executable, "-c", code], input=PLAN_12, stdout=subprocess.PIPE, env=environment)
         self.assertTrue(done.stdout.startswith(b"5 4 2 1 " + os.fsencode(self.tree)), done.stdout)
 
-    def test_a_program_in_c(self):
+    def test_programs_in_c(self):
         tags = [self.file(f"{v}.tag", TAGS_12[10 * v : 10 * v + 10]) for v in range(7)]
-        flags = [f"-I{self.tree / 'include'}", str(EXAMPLES / "reader.c")]
+        file, flags = self.file("12.tags", TAGS_12), f"-I{self.tree / 'include'}"
         for name, libraries in {
             "static": [str(self.tree / "lib" / "libpoddreshi.a")],
             "shared": [f"-L{self.tree / 'lib'}", "-lpoddreshi", f"-Wl,-rpath,{self.tree / 'lib'}"],
         }.items():
-            program = str(self.folder / name)
-            subprocess.run([*os.environ.get("CC", "cc").split(), "-o", program, *flags, *libraries], check=True)
-            self.assertEqual(subprocess.run([program, tags[4], tags[5]], stdout=subprocess.PIPE).stdout, b"1\n")
+            for example, words, told in (
+                ("reader.c", tags[4:6], b"1\n"),
+                ("page.c", [file, "1", "5", "5", "6", "5", "7"], b"1 5 3\n5 6 no chain\n5 7 refused 7: the second window\n"),
+            ):
+                program = str(self.folder / name)
+                made = [*os.environ.get("CC", "cc").split(), "-o", program, flags, str(EXAMPLES / example), *libraries]
+                subprocess.run(made, check=True)
+                self.assertEqual(subprocess.run([program, *words], stdout=subprocess.PIPE).stdout, told)
 
     def test_pkg_config(self):
         text = (self.tree / "lib" / "pkgconfig" / "poddreshi.pc").read_text()
