@@ -7,7 +7,7 @@ import random
 import resource
 import unittest
 
-from support import FRONT, SHORT_TAGS, TAGS_12, Case, line_plan, plan, random_windows, refusal
+from support import EXAMPLES, FRONT, SHORT_TAGS, TAGS_12, Case, line_plan, plan, random_windows, refusal
 
 import poddreshi
 
@@ -300,6 +300,11 @@ class Commands(Case):
         self.assertEqual([tuple(int(word) for word in line.split()[:3]) for line in lines], due)
         pairs = "".join(f"{first} {second}\n" for first, second, _ in due)
         self.assertEqual(self.text(name, stdin=pairs.encode()).splitlines(), lines)
+
+    def test_the_example(self):
+        year = poddreshi.tags(self.answers("plan", 40, EXAMPLES / "year.txt", "--origin", "2026-01-01")).tags
+        rows = self.rows(self.file("year.tags", year), EXAMPLES / "pairs.txt")[1:]
+        self.assertEqual([told_by(cell) for *_, cell in rows], ["2", "3", "no chain", "2", "by 7"])
 
     def test_exit_code(self):
         apart, joined, refused = b"5 6\n", b"1 5\n", b"1 9\n"

@@ -72,6 +72,7 @@ def _pair_at(tags: bytes, first: int, second: int, form: TagForm) -> calls.Hando
     ],
     [
         "poddreshi tags examples/plan-12.plan -o plan-12.tags",
+        "poddreshi tags year.plan -o year.tags",
         "poddreshi tags examples/plan-12.plan --into cabinets",
         "poddreshi tags --short examples/even.plan -o even.tags",
         "poddreshi tags --short examples/even.plan --into small-cabinets",
@@ -205,7 +206,7 @@ def _count_all(tags: bytes, first: int, form: TagForm) -> Reply:
         *(exit_code("no chain"), forms()),
     ],
     [
-        "poddreshi page plan-12.tags examples/pairs.txt",
+        "poddreshi page year.tags examples/pairs.txt",
         "poddreshi page plan-12.tags --all --csv -o plan-12.csv",
         "echo 1 5 | poddreshi page plan-12.tags",
     ],
