@@ -1,6 +1,15 @@
 //! The C interface as Rust sees it; `poddreshi.h` has the promises. A user takes what it calls, so the rest may lie unused.
 #![allow(dead_code)]
 
+/// One pair of a page: two positions, and the place for its answer.
+#[repr(C)]
+#[derive(Clone, Copy, PartialEq, Eq, Debug)]
+pub struct Query {
+    pub first: usize,
+    pub second: usize,
+    pub answer: u64,
+}
+
 extern "C" {
     pub fn poddreshi_validate(file: *const u8, length: usize) -> u64;
     pub fn poddreshi_build(
@@ -20,6 +29,7 @@ extern "C" {
     pub fn poddreshi_same(first: *const u8, first_length: usize, second: *const u8, second_length: usize) -> u64;
     pub fn poddreshi_pair(first: *const u8, first_length: usize, second: *const u8, second_length: usize) -> u64;
     pub fn poddreshi_pair_at(tags: *const u8, length: usize, first: usize, second: usize) -> u64;
+    pub fn poddreshi_page(tags: *const u8, length: usize, queries: *mut Query, queries_length: usize) -> u64;
     pub fn poddreshi_short_pair(first: *const u8, first_length: usize, second: *const u8, second_length: usize) -> u64;
     pub fn poddreshi_short_pair_at(tags: *const u8, length: usize, first: usize, second: usize) -> u64;
     pub fn poddreshi_lookup(tags: *const u8, length: usize, at: usize, offset: *mut usize) -> u64;
