@@ -25,4 +25,13 @@ pub enum Answer {
     Handovers(u16),
     Found,
     Written,
+    Filled,
+}
+
+/// A record of a page: two positions, and the answer that stands beside them.
+#[derive(Clone, Copy, PartialEq, Debug)]
+pub struct Record {
+    pub first: usize,
+    pub second: usize,
+    pub answer: Answer,
 }

@@ -1,7 +1,7 @@
 //! One call put to both sides, the library and the oracle: what each answers, what the library leaves in everything lent, and
 //! what the oracle would have there.
-use crate::answers::Answer;
-use crate::calls::{self, Lent, Tables};
+use crate::answers::{Answer, Record};
+use crate::calls::{self, Lent, Query, Tables};
 use crate::compare::Comparison;
 use crate::expected::{self, Owed};
 use crate::forms::Form;
@@ -39,6 +39,29 @@ pub struct Offset {
 impl Holds<Option<usize>> for Offset {
     fn holds(&self, what: Arguments, written: &Option<usize>) {
         assert_eq!(self.now, written.unwrap_or(self.before), "{what}: the offset");
+    }
+}
+
+/// The records of a page that has been filled, the same filled once more, and what the call for one pair says of each record's positions.
+pub struct Page {
+    once: Lent<Query>,
+    twice: Lent<Query>,
+    pairs: Vec<Answer>,
+}
+
+impl Holds<Vec<Record>> for Page {
+    fn holds(&self, what: Arguments, written: &Vec<Record>) {
+        let due: Vec<Query> = written.iter().map(calls::query).collect();
+        // The first record that differs says more than two long lists.
+        for (at, (now, due)) in self.once.entries().iter().zip(&due).enumerate() {
+            let Query { first, second, answer } = now;
+            assert!(now == due, "{what}: record {at} holds {first}, {second} and {answer:#018x}, and should be {:?}", written[at]);
+        }
+        self.once.holds(what, &due);
+        self.twice.holds(format_args!("{what}, filled twice"), &due);
+        for (pair, record) in self.pairs.iter().zip(written) {
+            assert_eq!(*pair, record.answer, "{what}: the pair at {} and {}", record.first, record.second);
+        }
     }
 }
 
@@ -115,6 +138,20 @@ impl Comparison {
 
     pub fn pair_at(&mut self, form: Form, tags: &[u8], first: usize, second: usize) -> Both<(), ()> {
         self.both(calls::pair_at(form, tags, first, second), (), expected::pair_at(form, tags, first, second))
+    }
+
+    /// Filling a page that is filled must be no difference, so it is filled twice.
+    pub fn page(&mut self, tags: &[u8], asked: &[(usize, usize)]) -> Both<Page, Vec<Record>> {
+        let (held, place) = self.placed(tags);
+        let (before, tags) = (held.clone(), &held[place]);
+        let mut once = calls::queries(asked, &mut self.random);
+        let library = calls::page(tags, &mut once);
+        assert!(held == before, "a tag file that was only to be read");
+        let mut twice = once.clone();
+        assert_eq!(calls::page(tags, &mut twice), library, "a page that is filled once more");
+        let pairs = asked.iter().map(|&(first, second)| calls::pair_at(Form::Long, tags, first, second)).collect();
+        self.calls += 1 + asked.len() as u64;
+        self.both(library, Page { once, twice, pairs }, expected::page(tags, asked))
     }
 
     pub fn lookup(&mut self, tags: &[u8], at: usize) -> Both<Offset, Option<usize>> {

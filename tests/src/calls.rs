@@ -1,9 +1,10 @@
 //! The C interface, each call wrapped so that nothing lent can be written to unseen: every table stands inside a larger
 //! buffer of random content, of which all but the table's first entries must stay.
-use crate::answers::{Answer, Refusal};
+use crate::answers::{Answer, Record, Refusal};
 use crate::forms::Form;
 use crate::oracle::Columns;
 use crate::random::Random;
+pub use interface::Query;
 use interface::*;
 use std::fmt::{Debug, Display};
 
@@ -26,6 +27,7 @@ fn unpack(answer: u64) -> Answer {
         (9, (count, 0, 0)) => Answer::Handovers(count),
         (10, (0, 0, 0)) => Answer::Found,
         (11, (0, 0, 0)) => Answer::Written,
+        (12, (0, 0, 0)) => Answer::Filled,
         _ => panic!("no call has the answer {answer:#018x}"),
     }
 }
@@ -34,6 +36,7 @@ fn unpack(answer: u64) -> Answer {
 const GUARD: usize = 4;
 
 /// A table of `room` entries inside a guarded buffer of random content.
+#[derive(Clone)]
 pub struct Lent<T> {
     now: Vec<T>,
     before: Vec<T>,
@@ -47,6 +50,10 @@ impl<T: Copy + PartialEq + Debug> Lent<T> {
     }
     fn pointer(&mut self) -> *mut T {
         self.now[GUARD..].as_mut_ptr()
+    }
+    /// What stands in the table now.
+    pub fn entries(&self) -> &[T] {
+        &self.now[GUARD..][..self.room]
     }
     /// The first entries are those given, and all others of the buffer are as they were.
     pub fn holds(&self, what: impl Display, written: &[T]) {
@@ -143,6 +150,44 @@ pub fn pair_at(form: Form, tags: &[u8], first: usize, second: usize) -> Answer {
         Form::Short => poddreshi_short_pair_at,
     };
     unpack(unsafe { call(tags.as_ptr(), tags.len(), first, second) })
+}
+
+/// The answer as a record holds it: the kind, and then the numbers, the lowest field first.
+fn packed(answer: Answer) -> u64 {
+    let fields = match answer {
+        Answer::Refused(no) => [0, no.number, no.input, no.position],
+        Answer::NoChain => [5, 0, 0, 0],
+        Answer::Handovers(count) => [9, count, 0, 0],
+        _ => panic!("no record holds {answer:?}"),
+    };
+    fields.iter().rev().fold(0, |high, &field| high << 16 | field as u64)
+}
+
+/// The record as it lies in memory.
+pub fn query(record: &Record) -> Query {
+    Query { first: record.first, second: record.second, answer: packed(record.answer) }
+}
+
+/// What stands in a record before it is filled: anything, or half of the times what could be an answer.
+fn old_answer(random: &mut Random) -> u64 {
+    let any = random.next();
+    let count = 9 | (random.below(4) << 16);
+    random.pick(&[any, any, any, any, 0, 5, count, 7 << 16])
+}
+
+/// The records of a page, with these positions.
+pub fn queries(asked: &[(usize, usize)], random: &mut Random) -> Lent<Query> {
+    let mut any = || Query { first: random.next() as usize, second: random.next() as usize, answer: old_answer(random) };
+    let mut lent = Lent::new(asked.len(), &mut any);
+    for (query, &(first, second)) in lent.before[GUARD..].iter_mut().zip(asked) {
+        (query.first, query.second) = (first, second);
+    }
+    lent.now.clone_from(&lent.before);
+    lent
+}
+
+pub fn page(tags: &[u8], queries: &mut Lent<Query>) -> Answer {
+    unpack(unsafe { poddreshi_page(tags.as_ptr(), tags.len(), queries.pointer(), queries.room) })
 }
 
 pub fn lookup(tags: &[u8], at: usize, offset: &mut usize) -> Answer {

@@ -5,6 +5,7 @@ use crate::calls::{self, Tables};
 use crate::forms::{Form, FORMS};
 use crate::oracle::{self, Columns, Plan, Tree};
 use crate::random::Random;
+use std::ops::Range;
 
 /// How much of a plan is gone through.
 #[derive(Clone, Copy, PartialEq)]
@@ -33,7 +34,7 @@ fn position_sample(n: usize, depth: Depth, random: &mut Random) -> Vec<usize> {
 
 /// Positions that n windows do not have: the next one, one further on, and one that would be a window in 16, 32, 61 or 63 bits.
 /// (In 64 bits, ten times 2^63 and a position is ten times that position, and so it is with eight and 2^61.)
-fn positions_past(n: usize, random: &mut Random) -> [usize; 3] {
+pub fn positions_past(n: usize, random: &mut Random) -> [usize; 3] {
     let high = random.pick(&[1 << 16, 1 << 32, 1 << 61, 1 << 63]);
     [n, random.pick(&[n + 1, n.max(2048), usize::MAX]), high + random.below(n.max(1) as u64) as usize]
 }
@@ -43,14 +44,20 @@ impl Comparison {
         Comparison { random, calls: 0 }
     }
 
-    /// One file through every call that takes one. It stands at any address, even or odd, inside a larger buffer of random
-    /// content, and all of it stays.
-    pub fn file(&mut self, file: &[u8], depth: Depth) {
+    /// The bytes at any address, even or odd, inside a larger buffer of random content, and where they stand in it.
+    pub fn placed(&mut self, bytes: &[u8]) -> (Vec<u8>, Range<usize>) {
         let start = self.random.below(16) as usize;
-        let mut before: Vec<u8> = (0..start + file.len() + 16).map(|_| self.random.next() as u8).collect();
-        before[start..start + file.len()].copy_from_slice(file);
+        let place = start..start + bytes.len();
+        let mut buffer: Vec<u8> = (0..place.end + 16).map(|_| self.random.next() as u8).collect();
+        buffer[place.clone()].copy_from_slice(bytes);
+        (buffer, place)
+    }
+
+    /// One file through every call that takes one. All of the buffer in which it stands stays.
+    pub fn file(&mut self, file: &[u8], depth: Depth) {
+        let (before, place) = self.placed(file);
         let held = before.clone();
-        let file = &held[start..start + file.len()];
+        let file = &held[place];
         match oracle::read_plan(file, 0) {
             Err(no) => self.refused_file(file, no),
             Ok(plan) => self.accepted_file(file, &plan, depth),
@@ -98,12 +105,14 @@ impl Comparison {
         if n > 0 {
             self.tables_too_short(file, n);
         }
-        self.lookups(&tree.tag_file(Form::Long));
+        let tags = tree.tag_file(Form::Long);
+        self.lookups(&tags);
         let distances: Vec<Vec<Option<u16>>> = (0..n).map(|v| tree.distances(v)).collect();
         let some = position_sample(n, depth, &mut self.random);
         self.from_plan(file, &tree, &some, &distances);
         self.named_positions(file, n);
         self.from_tags(Form::Long, file, &tree, &some, &distances);
+        self.page_of_plan(&tags, &distances);
         match oracle::is_even(plan) {
             Ok(()) => self.from_tags(Form::Short, file, &tree, &some, &distances),
             Err(no) => self.no_short_tags(file, n, no),

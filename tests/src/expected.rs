@@ -1,6 +1,6 @@
 //! What each call owes on every input: the questions that fit the call, in the paper's order, and then what the oracle finds.
 //! With an answer goes what is to stand at the front of each lent table; a refusal writes nothing.
-use crate::answers::{refusal, Answer, Refusal};
+use crate::answers::{refusal, Answer, Record, Refusal};
 use crate::forms::Form;
 use crate::oracle::{self, Columns, Tree};
 
@@ -96,6 +96,23 @@ pub fn pair_at(form: Form, tags: &[u8], first: usize, second: usize) -> Owed<()>
     is_position(second, n, 1)?;
     let length = form.bytes();
     pair(form, &tags[length * first..][..length], &tags[length * second..][..length])
+}
+
+/// In each record "the refusal by 7 of its first and then its second position, or else [...] what the pair call says of the two tags
+/// found there, refusals included"; the positions stay, and the page has no refusal but 9.
+pub fn page(tags: &[u8], asked: &[(usize, usize)]) -> Owed<Vec<Record>> {
+    tag_count(Form::Long, tags)?;
+    let tags: Vec<&[u8]> = tags.chunks(Form::Long.bytes()).collect();
+    let found = |at: usize, input: u16| tags.get(at).copied().ok_or(refusal(7, input, 0));
+    let says = |first: usize, second: usize| {
+        let two = [found(first, 0)?, found(second, 1)?];
+        oracle::pair(Form::Long, two[0], two[1])
+    };
+    let filled = |&(first, second): &(usize, usize)| {
+        let answer = says(first, second).unwrap_or_else(Answer::Refused);
+        Record { first, second, answer }
+    };
+    Ok((Answer::Filled, asked.iter().map(filled).collect()))
 }
 
 /// What is written is where the tag begins.

@@ -14,6 +14,7 @@ mod forms;
 mod listing;
 mod minimums;
 mod oracle;
+mod pages;
 mod paper;
 mod random;
 mod refusals;
@@ -104,6 +105,10 @@ fn every_refusal(run: &mut Run) {
         run.case("tag files", &mut |comparison| refusals::tag_files(comparison, form));
         run.case("a tag to be written", &mut |comparison| refusals::written_tags(comparison, form));
     }
+    run.case("bad records among good ones", &mut pages::bad_among_good);
+    run.case("a page of faulty tags", &mut pages::faulty_tags);
+    run.case("tag files of pages", &mut pages::tag_files);
+    run.case("a page of many records", &mut pages::many_records);
     run.report("refusals");
 }
 
@@ -389,6 +394,18 @@ fn any_tags(run: &mut Run) {
     run.report("tags");
 }
 
+/// Pages over tags that no plan has, and over tag files of any length.
+fn any_pages(run: &mut Run) {
+    for _ in 0..run.times(500, 10_000) {
+        run.case("pages", &mut |comparison| {
+            for _ in 0..100 {
+                pages::any_page(comparison);
+            }
+        });
+    }
+    run.report("pages");
+}
+
 fn main() {
     let mut run = Run { long: false, seed: 20_240_625, only: None, listing: None, cases: 0, calls: 0, started: Instant::now() };
     let mut words = std::env::args().skip(1);
@@ -421,6 +438,7 @@ fn main() {
     large_even_plans(&mut run);
     damaged_files(&mut run);
     any_tags(&mut run);
+    any_pages(&mut run);
     listed_cases(&mut run);
     let seconds = run.started.elapsed().as_secs_f64();
     println!("differential: {} cases, {} calls, no difference, seed {seed}, {seconds:.1} s", run.cases, run.calls);

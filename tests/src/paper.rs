@@ -1,11 +1,12 @@
 //! Every case of paper 01 by name, put to the library and to the oracle: both must have the paper's number, and leave every
 //! lent byte alike. The numbers stand as the paper prints them and none is computed; the few that it does not print follow from
 //! its words: a chain of two windows, the components of a plan of one window, plan 12 twice; and from those of paper 02: the short
-//! tags of plan 12 made even, and what becomes of two and three windows as the minimum rises.
-use crate::answers::{refusal, Answer};
+//! tags of plan 12 made even, what becomes of two and three windows as the minimum rises, and pages of plan 12.
+use crate::answers::{refusal, Answer, Refusal};
 use crate::compare::Comparison;
 use crate::forms::Form;
 use crate::oracle::{tag_bytes, Columns};
+use crate::pages;
 use crate::refusals::every_call_refuses;
 use crate::shapes::{file_of, old_file_of, windows_in};
 use Says::*;
@@ -72,6 +73,8 @@ enum Says {
     Different(u32, &'static [(u32, u32)]),
     /// Of a position, the windows that overlap it.
     Neighbours(usize, &'static [u16]),
+    /// Of each two positions, what a page says, and that a tag file of wrong length refuses it.
+    Page(&'static [(usize, usize, Answer)]),
 }
 
 pub struct Case {
@@ -90,8 +93,9 @@ fn by(minimum: u32, name: &'static str, windows: &[(u32, u32)], says: Says) -> C
 }
 
 pub fn cases() -> Vec<Case> {
-    let papers = [worked(), edges(), long_inputs(), traps(), short_tags(), minimums(), rising_minimums(), minimums_refused()];
-    papers.into_iter().flatten().collect()
+    let paper_01 = [worked(), edges(), long_inputs(), traps()];
+    let paper_02 = [short_tags(), minimums(), rising_minimums(), minimums_refused(), pages_of_pairs()];
+    paper_01.into_iter().chain(paper_02).flatten().collect()
 }
 
 fn worked() -> Vec<Case> {
@@ -298,6 +302,43 @@ fn minimums_refused() -> Vec<Case> {
     ]
 }
 
+const PAST_FIRST: Answer = Answer::Refused(Refusal { number: 7, input: 0, position: 0 });
+
+const PAST_SECOND: Answer = Answer::Refused(Refusal { number: 7, input: 1, position: 0 });
+
+/// The pairs of paper 01.
+const PAGE: [(usize, usize, Answer); 9] = [
+    (0, 5, Answer::Handovers(3)),
+    (1, 5, Answer::Handovers(3)),
+    (3, 5, Answer::Handovers(3)),
+    (2, 3, Answer::Handovers(1)),
+    (1, 3, Answer::Handovers(2)),
+    (3, 4, Answer::Handovers(2)),
+    (4, 5, Answer::Handovers(1)),
+    (5, 6, Answer::NoChain),
+    (6, 6, Answer::Handovers(0)),
+];
+
+/// Some of them, and positions that plan 12 does not have.
+const PAGE_WITH_PAST: [(usize, usize, Answer); 6] = [
+    (7, 0, PAST_FIRST),
+    (0, 5, Answer::Handovers(3)),
+    (6, 7, PAST_SECOND),
+    (5, 6, Answer::NoChain),
+    (7, 8, PAST_FIRST),
+    (4, 5, Answer::Handovers(1)),
+];
+
+/// Paper 02, Q-4.
+fn pages_of_pairs() -> Vec<Case> {
+    vec![
+        case("a page of the pairs marked P", &PLAN_12, Page(&PAGE)),
+        case("a page with positions past plan 12: no refusal of the page", &PLAN_12, Page(&PAGE_WITH_PAST)),
+        case("a page of no records", &PLAN_12, Page(&[])),
+        case("a page of the plan with no window", &[], Page(&[(0, 0, PAST_FIRST)])),
+    ]
+}
+
 impl Case {
     /// How the listing program's text begins, as far as the case says it.
     pub fn printed(&self) -> String {
@@ -326,6 +367,7 @@ impl Case {
             Same(minimum, windows) => sameness(comparison, file, &file_of(13, minimum, windows), Answer::Same),
             Different(minimum, windows) => sameness(comparison, file, &file_of(13, minimum, windows), Answer::Different),
             Neighbours(at, near) => neighbours(comparison, file, at, near),
+            Page(due) => page(comparison, file, due),
         }
         assert_eq!(file, &self.file, "a file that was only to be read");
     }
@@ -453,5 +495,16 @@ fn neighbours(comparison: &mut Comparison, file: &[u8], at: usize, near: &[u16])
     for more in MORE {
         let both = comparison.neighbours(file, at, near.len() + more);
         both.are(format_args!("neighbours of {at}"), Answer::Neighbours(near.len() as u16), &near.to_vec());
+    }
+}
+
+/// The page, and the same with a byte more in the tag file, or a byte less than a tag more, which fills nothing.
+fn page(comparison: &mut Comparison, file: &[u8], due: &[(usize, usize, Answer)]) {
+    let tags = columns(comparison, file).tags;
+    pages::says(comparison, &tags, due);
+    let asked: Vec<(usize, usize)> = due.iter().map(|&(first, second, _)| (first, second)).collect();
+    for more in [1, 9] {
+        let both = comparison.page(&[&tags[..], &vec![0; more]].concat(), &asked);
+        both.are(format_args!("page, {more} bytes too many"), Answer::Refused(refusal(9, 0, 0)), &vec![]);
     }
 }

@@ -235,7 +235,7 @@ fn sound_plans() -> Vec<Vec<u8>> {
 
 /// Every position of n windows, and positions past them: the next ones, those that are windows in 16, 32, 61 or 63 bits, and
 /// those that are windows in 64 bits once they have been multiplied by ten.
-fn positions(n: usize) -> Vec<usize> {
+pub fn positions(n: usize) -> Vec<usize> {
     let cut = [1 << 16, 1 << 32, 1 << 61, 1 << 63].into_iter().flat_map(|high| [high, high + n.saturating_sub(1)]);
     (0..n).chain([n, n + 1, 2047, 2048, usize::MAX / 10, usize::MAX / 10 + 1, usize::MAX]).chain(cut).collect()
 }
@@ -286,7 +286,7 @@ pub fn rooms_of_tags(comparison: &mut Comparison, form: Form) {
 }
 
 /// Byte strings as tags, each with the question, 9 or 10, that refuses it, and 0 where neither does.
-fn tags(form: Form) -> Vec<(u16, Vec<u8>)> {
+pub fn tags(form: Form) -> Vec<(u16, Vec<u8>)> {
     let numbers = form.numbers();
     let sound = [
         [12, 0, 2, 2, 1],
