@@ -74,6 +74,31 @@ static void check_build(void) {
     check(refused(poddreshi_pair_at(tags, 70, 0, 7), 7, 1, 0), "a second position past the last tag");
 }
 
+/* A page on the tags of plan 12, its records laid out as the library reads them: two have a position past the last tag, and the
+ * last is not lent. */
+static void check_page(void) {
+    static const struct poddreshi_query asked[6] = {{1, 5, 40}, {6, 5, 41}, {7, 0, 42}, {0, 7, 43}, {6, 6, 44}, {2, 3, 45}};
+    struct poddreshi_query page[6];
+    int i;
+
+    check(sizeof page[0] == 24 && sizeof page[0].first == 8 && sizeof page[0].answer == 8, "the size of a record");
+    check(offsetof(struct poddreshi_query, first) == 0 && offsetof(struct poddreshi_query, second) == 8 &&
+              offsetof(struct poddreshi_query, answer) == 16,
+          "where the numbers of a record lie");
+    memcpy(page, asked, sizeof page);
+    check(refused(poddreshi_page(tags, 69, page, 5), 9, 0, 0), "a page and a short tag file");
+    check(memcmp(page, asked, sizeof page) == 0, "a page that is refused");
+    check(is(poddreshi_page(tags, 70, page, 5), PODDRESHI_FILLED, 0, 0, 0), "page");
+    check(is(page[0].answer, PODDRESHI_HANDOVERS, 3, 0, 0), "a record of a page");
+    check(is(page[1].answer, PODDRESHI_NO_CHAIN, 0, 0, 0), "no chain in a record");
+    check(refused(page[2].answer, 7, 0, 0), "a first position past the last tag in a record");
+    check(refused(page[3].answer, 7, 1, 0), "a second position past the last tag in a record");
+    check(is(page[4].answer, PODDRESHI_HANDOVERS, 0, 0, 0), "the last record of a page");
+    check(memcmp(page + 5, asked + 5, sizeof page[0]) == 0, "a record behind a page");
+    for (i = 0; i < 5; i++) check(page[i].first == asked[i].first && page[i].second == asked[i].second, "the positions of a record");
+    check(is(poddreshi_page(tags, 0, page, 0), PODDRESHI_FILLED, 0, 0, 0), "a page of no records");
+}
+
 /* Plan 12 with windows 1 and 3 longer is even and has the tree of plan 12; windows 3 and 4 overlap in it. */
 static void check_short(void) {
     static uint8_t even[64], tags_of_even[56], short_tag[8];
@@ -148,6 +173,7 @@ int main(void) {
     }
     check_plan();
     check_build();
+    check_page();
     check_short();
     check_figures();
     check_minimum();

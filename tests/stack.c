@@ -7,10 +7,11 @@
 #include <stdlib.h>
 #include <string.h>
 
-enum { WINDOWS = 2048, STACK = 1 << 20, PAINT = 0xA5 };
+enum { WINDOWS = 2048, RECORDS = 300, STACK = 1 << 20, PAINT = 0xA5 };
 
 static unsigned char plan[8 + 8 * WINDOWS], tags[10 * WINDOWS], short_tags[8 * WINDOWS];
 static uint16_t tables[5][WINDOWS];
+static struct poddreshi_query queries[RECORDS];
 
 static void nothing(void) {}
 static void validate(void) { poddreshi_validate(plan, sizeof plan); }
@@ -26,6 +27,7 @@ static void neighbours(void) { poddreshi_neighbours(plan, sizeof plan, 5, tables
 static void same(void) { poddreshi_same(plan, sizeof plan, plan, sizeof plan); }
 static void pair(void) { poddreshi_pair(tags, 10, tags + 10, 10); }
 static void pair_at(void) { poddreshi_pair_at(tags, sizeof tags, 3, 700); }
+static void page(void) { poddreshi_page(tags, sizeof tags, queries, RECORDS); }
 static void write_tag(void) { poddreshi_write(12, 0, 2, 2, 1, tags, sizeof tags); }
 static void lookup(void) {
     size_t offset;
@@ -40,9 +42,9 @@ static const struct { const char *name; void (*call)(void); long most; } calls[]
     {"nothing", nothing, 0},           {"validate", validate, 17000},         {"build", build, 17000},
     {"tags", tag_file, 38000},         {"short_tags", short_tag_file, 38000}, {"reach", reach, 17000},
     {"chain", chain, 17000},           {"neighbours", neighbours, 17000},     {"same", same, 17000},
-    {"pair", pair, 100},               {"pair_at", pair_at, 100},             {"lookup", lookup, 100},
-    {"write", write_tag, 100},         {"short_pair", short_pair, 100},       {"short_pair_at", short_pair_at, 100},
-    {"short_write", write_short, 100},
+    {"pair", pair, 100},               {"pair_at", pair_at, 100},             {"page", page, 100},
+    {"lookup", lookup, 100},           {"short_pair_at", short_pair_at, 100}, {"short_pair", short_pair, 100},
+    {"write", write_tag, 100},         {"short_write", write_short, 100},
 };
 
 static void *run(void *call) {
@@ -76,6 +78,10 @@ int main(void) {
         plan[8 + 8 * v] = 2 * v & 255;
         plan[9 + 8 * v] = 2 * v >> 8;
         plan[12 + 8 * v] = 7;
+    }
+    for (unsigned i = 0; i < RECORDS; i++) { /* pairs of windows, and behind them such as have a position past the last */
+        queries[i].first = 7 * i;
+        queries[i].second = WINDOWS - 100 + i / 2;
     }
     for (size_t i = 0; i < sizeof calls / sizeof calls[0]; i++) {
         long bytes = used(calls[i].call);
