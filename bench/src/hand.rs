@@ -1,5 +1,6 @@
 //! The same algorithms by hand in Rust, as one would write them for release: slices, iterators where they spare a bounds
 //! check, fixed scratch on the stack, the same questions and the same answers.
+use crate::interface::Query;
 use std::cmp::{max, min};
 
 #[derive(Clone, Copy, PartialEq, Eq, Debug)]
@@ -257,6 +258,61 @@ pub fn hand_pair(first: &[u8], second: &[u8]) -> Result<Option<u16>, Refusal> {
         levels + 1
     };
     Ok(Some(count))
+}
+
+/// Of two tags of one component and different ranks.
+fn handovers(a: Tag, b: Tag) -> u16 {
+    let (u, v) = if (a.depth, a.rank) < (b.depth, b.rank) { (a, b) } else { (b, a) };
+    let levels = v.depth - u.depth;
+    if u.rank < v.rank {
+        if v.rank <= u.last || u.last < u.rank { levels + 1 } else { levels + 2 }
+    } else if v.rank <= u.last && u.last < u.rank {
+        levels
+    } else {
+        levels + 1
+    }
+}
+
+/// The number of handovers, or none where no chain joins the windows.
+fn pair_in(tags: &[[u8; 10]], first: usize, second: usize) -> Result<Option<u16>, Refusal> {
+    let Some(first) = tags.get(first) else { return no(7, 0, 0) };
+    let Some(second) = tags.get(second) else { return no(7, 1, 0) };
+    let a = read_tag(first, 0)?;
+    let b = read_tag(second, 1)?;
+    if a.plan != b.plan {
+        return no(11, 1, 0);
+    }
+    if a.component != b.component {
+        return Ok(None);
+    }
+    // Asked of every pair, whether two tags are equal takes as long as all else on sparse plans.
+    if a.rank == b.rank {
+        return if a == b { Ok(Some(0)) } else { no(12, 1, 0) };
+    }
+    Ok(Some(handovers(a, b)))
+}
+
+/// An answer as a record holds it.
+fn packed(answer: Result<Option<u16>, Refusal>) -> u64 {
+    match answer {
+        Ok(Some(count)) => 9 | (count as u64) << 16,
+        Ok(None) => 5,
+        Err(Refusal { number, input, position }) => (number as u64) << 16 | (input as u64) << 32 | (position as u64) << 48,
+    }
+}
+
+/// Every record is filled; what is refused is said in its own.
+#[no_mangle]
+#[inline(never)]
+pub fn hand_page(tags: &[u8], queries: &mut [Query]) -> Result<(), Refusal> {
+    let (tags, rest) = tags.as_chunks::<10>();
+    if !rest.is_empty() {
+        return no(9, 0, 0);
+    }
+    for query in queries {
+        query.answer = packed(pair_in(tags, query.first, query.second));
+    }
+    Ok(())
 }
 
 #[derive(Clone, Copy, PartialEq)]

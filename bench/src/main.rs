@@ -4,6 +4,7 @@
 //!   bench                             the tables
 //!   bench --count CALL WHO SHAPE N    makes one call only (CALL of WHO, ours or hand), for an instruction counter
 mod hand;
+mod page;
 mod plans;
 mod search;
 mod short;
@@ -181,11 +182,11 @@ fn searches(case: &Case, graph: &Graph, library: &Option<Library>, pair_time: f6
 fn count(words: &[String]) {
     let shape = SHAPES.into_iter().chain(EVEN_SHAPES).find(|shape| shape.name() == words[2]).expect("a shape");
     let case = Case::new(shape, words[3].parse().expect("a number of windows"));
-    let mut lent = Tables::new(case.n);
+    let (mut lent, mut queries) = (Tables::new(case.n), case.page.clone());
     let (file, (u, v)) = (&case.files[0][..], case.queries[0]);
     // No table is built where build is counted.
     let tags = match words[0].as_str() {
-        "pair" => plans::tags_of(&case),
+        "pair" | "page" => plans::tags_of(&case),
         "short_pair" => plans::short_tags_of(&case),
         _ => Vec::new(),
     };
@@ -194,6 +195,8 @@ fn count(words: &[String]) {
         ("build", _) => keep(build_by_hand(file, &mut lent)),
         ("pair", "ours") => keep(pair(tag(&tags, u), tag(&tags, v))),
         ("pair", _) => keep(hand::hand_pair(tag(&tags, u), tag(&tags, v))),
+        ("page", "ours") => keep(page::page(&tags, &mut queries)),
+        ("page", _) => keep(hand::hand_page(&tags, &mut queries)),
         ("short_tags", "ours") => keep(short::tags(file, &mut lent.tags)),
         ("short_tags", _) => keep(hand::hand_short_tags(file, &mut lent.tags)),
         ("short_pair", "ours") => keep(short::pair(short::tag(&tags, u), short::tag(&tags, v))),
@@ -223,4 +226,5 @@ fn main() {
     println!("\nBuild at 2,048 windows over build at 1,024: {}.", growth.join(", "));
     println!("Boost Graph's search over a pair call at 2,048 windows (0: not there): {}.", library.join(", "));
     short::table();
+    page::table();
 }

@@ -1,5 +1,6 @@
 //! The plans that are measured, made from fixed seeds.
 use crate::hand;
+use crate::interface::Query;
 
 #[derive(Clone, Copy)]
 pub enum Shape {
@@ -44,6 +45,9 @@ impl Shape {
 /// How many plans of a shape are gone through in turn: with one alone the processor learns its branches by heart.
 pub const PLANS: usize = 16;
 
+/// How many records a page has.
+pub const RECORDS: usize = 10_000;
+
 pub struct Case {
     pub name: &'static str,
     pub n: usize,
@@ -53,6 +57,8 @@ pub struct Case {
     pub files: Vec<Vec<u8>>,
     /// Random pairs of positions.
     pub queries: Vec<(usize, usize)>,
+    /// As many as a page has.
+    pub page: Vec<Query>,
 }
 
 struct Random(u64);
@@ -102,17 +108,23 @@ impl Case {
         let plans: Vec<Vec<(u32, u32)>> = (0..PLANS).map(|_| windows_of(shape, n, &mut random)).collect();
         let mut position = || random.below(n as u32) as usize;
         let queries = (0..1024).map(|_| (position(), position())).collect();
+        let page = (0..RECORDS).map(|_| Query { first: position(), second: position(), answer: 0 }).collect();
         let minimum = shape.minimum();
         let files = plans.iter().map(|windows| file_of(minimum, windows)).collect();
-        Case { name: shape.name(), n, minimum, windows: plans[0].clone(), files, queries }
+        Case { name: shape.name(), n, minimum, windows: plans[0].clone(), files, queries, page }
     }
 }
 
 pub fn tags_of(case: &Case) -> Vec<u8> {
+    tags_in(case, &case.files[0])
+}
+
+/// The tag file of one of the plans.
+pub fn tags_in(case: &Case, file: &[u8]) -> Vec<u8> {
     let mut tables = [(); 5].map(|_| vec![0; case.n]);
     let mut tags = vec![0; 10 * case.n];
     let [a, b, c, d, e] = &mut tables;
-    hand::hand_build(&case.files[0], [a, b, c, d, e], &mut tags).unwrap();
+    hand::hand_build(file, [a, b, c, d, e], &mut tags).unwrap();
     tags
 }
 
