@@ -230,55 +230,18 @@ fn read_tag(bytes: &[u8], input: u8) -> Result<Tag, Refusal> {
     Ok(tag)
 }
 
-/// The number of handovers, or none where no chain joins the windows.
-#[no_mangle]
-#[inline(never)]
-pub fn hand_pair(first: &[u8], second: &[u8]) -> Result<Option<u16>, Refusal> {
-    let a = read_tag(first, 0)?;
-    let b = read_tag(second, 1)?;
-    if a.plan != b.plan {
-        return no(11, 1, 0);
-    }
-    if a == b {
-        return Ok(Some(0));
-    }
-    if a.component != b.component {
-        return Ok(None);
-    }
-    if a.rank == b.rank {
-        return no(12, 1, 0);
-    }
-    let (u, v) = if (a.depth, a.rank) < (b.depth, b.rank) { (a, b) } else { (b, a) };
-    let levels = v.depth - u.depth;
-    let count = if u.rank < v.rank {
-        if v.rank <= u.last || u.last < u.rank { levels + 1 } else { levels + 2 }
-    } else if v.rank <= u.last && u.last < u.rank {
-        levels
-    } else {
-        levels + 1
-    };
-    Ok(Some(count))
-}
-
-/// Of two tags of one component and different ranks.
+/// Of two tags of one component and different ranks. Which of two random tags is u, and how they lie, no processor can foresee, so there
+/// is a minimum, a maximum and a sum of comparisons in the place of branches.
 fn handovers(a: Tag, b: Tag) -> u16 {
-    let (u, v) = if (a.depth, a.rank) < (b.depth, b.rank) { (a, b) } else { (b, a) };
-    let levels = v.depth - u.depth;
-    if u.rank < v.rank {
-        if v.rank <= u.last || u.last < u.rank { levels + 1 } else { levels + 2 }
-    } else if v.rank <= u.last && u.last < u.rank {
-        levels
-    } else {
-        levels + 1
-    }
+    let order = |tag: Tag| (tag.depth as u64) << 32 | (tag.rank as u64) << 16 | tag.last as u64;
+    let (u, v) = (min(order(a), order(b)), max(order(a), order(b)));
+    let (rank_u, rank_v, last_u) = ((u >> 16) as u16, (v >> 16) as u16, u as u16);
+    let (rising, reached, around) = ((rank_u < rank_v) as u16, (rank_v <= last_u) as u16, (last_u < rank_u) as u16);
+    ((v >> 32) - (u >> 32)) as u16 + 1 + rising - (rising + reached + around) / 2
 }
 
 /// The number of handovers, or none where no chain joins the windows.
-fn pair_in(tags: &[[u8; 10]], first: usize, second: usize) -> Result<Option<u16>, Refusal> {
-    let Some(first) = tags.get(first) else { return no(7, 0, 0) };
-    let Some(second) = tags.get(second) else { return no(7, 1, 0) };
-    let a = read_tag(first, 0)?;
-    let b = read_tag(second, 1)?;
+fn compared(a: Tag, b: Tag) -> Result<Option<u16>, Refusal> {
     if a.plan != b.plan {
         return no(11, 1, 0);
     }
@@ -290,6 +253,20 @@ fn pair_in(tags: &[[u8; 10]], first: usize, second: usize) -> Result<Option<u16>
         return if a == b { Ok(Some(0)) } else { no(12, 1, 0) };
     }
     Ok(Some(handovers(a, b)))
+}
+
+#[no_mangle]
+#[inline(never)]
+pub fn hand_pair(first: &[u8], second: &[u8]) -> Result<Option<u16>, Refusal> {
+    let a = read_tag(first, 0)?;
+    let b = read_tag(second, 1)?;
+    compared(a, b)
+}
+
+fn pair_in(tags: &[[u8; 10]], first: usize, second: usize) -> Result<Option<u16>, Refusal> {
+    let Some(first) = tags.get(first) else { return no(7, 0, 0) };
+    let Some(second) = tags.get(second) else { return no(7, 1, 0) };
+    compared(read_tag(first, 0)?, read_tag(second, 1)?)
 }
 
 /// An answer as a record holds it.
