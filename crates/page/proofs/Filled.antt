@@ -1,13 +1,14 @@
 -- Laws of a page: its answer, a list of which the first elements are replaced, and that replacing each by the answer of a single pair
 -- fills the page.
--- Vocabulary: upTo, upTo-*, page-*, as-filled, page-filled.
+-- Vocabulary: upTo, upTo-*, map-alike, to-fill-few, query-asked, page-9, page-whole, whole-page, pair-filled, as-filled, page-filled.
 -- Assumes nothing.
 use Prim.Native.Nat.{ℕ, zero, suc, _%_, _<_, _≤_}
-use mathlib.Core.{Path._≡_, Path.refl, Path.sym, Path.ap, Path._∙_, Path.subst, Logic._⊎_, Logic.inl, Logic.inr, Logic.⊎-elim}
+use mathlib.Core.{Path._≡_, Path.refl, Path.sym, Path.ap, Path._∙_, Path.subst, Logic.⊎-elim}
 use mathlib.Core.{List.List, List.[], List._∷_, List.map, List.List·Memᴰ·head}
 use native.Mathlib.Omega.{arith}
 use lib.ListN.{length, getD, set}
 use borrow.Author.Tests.{eq-eqb, ne-eqb, eqb-true}
+use Rattle.sequences.proofs.Tests.{equal-or-not}
 use Rattle.refusals.specs.declared.Refusal.{Refusal}
 use Rattle.refusals.specs.Question.{refusalBy, question, firstNo, positionQuestions}
 use Rattle.refusals.proofs.Question.{first-append, asked-first, first-all, all-member}
@@ -105,13 +106,9 @@ module _ (tags : List ℕ) where
     unfolding filled-so toFill ifFilled upTo
     none-filled r = refl
 
-    zero-or-not : (m : ℕ) → (m ≡ 0) ⊎ (m ≡ 0 → ⊥)
-    zero-or-not zero = inl refl
-    zero-or-not (suc m) = inr (λ e. omega (arith, e))
-
     pub page-filled : upTo f (toFill (pageAnswerOf tags) (length l)) l ≡ ifFilled (pageAnswerOf tags) (map g l) l
     unfolding filled-so
     page-filled = ⊎-elim
         (λ whole. subst filled-so (page-whole whole) (all-filled whole))
         (λ other. subst filled-so (page-9 other) (none-filled (refusalBy 9)))
-        (zero-or-not (length tags % tagLength))
+        (equal-or-not (length tags % tagLength) 0)

@@ -36,7 +36,7 @@ unfoldable pub pageAnswerOf : List ℕ → PageAnswer
 pageAnswerOf tags = firstNo (tagFileQuestion tags ∷ []) Refused Filled
 
 -- "and fills nothing."
-unfoldable pub ifFilled : {A : Type 0} → PageAnswer → (filled before : A) → A
+unfoldable pub ifFilled : {A : Type 0} → PageAnswer → (done before : A) → A
 ifFilled Filled done before = done
 ifFilled (Refused r) done before = before
 

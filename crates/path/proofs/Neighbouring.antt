@@ -30,11 +30,6 @@ use Rattle.path.specs.declared.answers.NeighboursAnswer.the-variants.{Ne
 use Rattle.path.specs.Neighbours.{neighboursOf, neighboursQuestions, neighboursAnswerOf}
 use Rattle.path.proofs.Meeting.{last-within}
 
--- An answer counts as at most 1.
-pub one-most : (t : Bool) → boolByte t ≤ 1
-one-most true = omega arith
-one-most false = omega arith
-
 -- Before the position v of n: so many passed the test.
 pub record Counted (p : ℕ → Bool) (n found v : ℕ) : Type 0 where
   pub within : v ≤ n

@@ -1,4 +1,6 @@
 -- The C interface: what is left in what is lent to it. What is answered is defined in the crates below, and how it is packed
 -- into a number in `packing`.
+--   Lent   the tables and the offset
+--   Pages  the records of a page
 pub mod Lent
 pub mod Pages

@@ -1,10 +1,12 @@
 -- Tests and cases: what every proof above splits on.
--- Vocabulary: cond-cases, lt-or-ge, equal-or-not, truth (is a test true or false), and-*, or-*, not-*.
+-- Vocabulary: cond-cases, lt-or-ge, equal-or-not, truth (is a test true or false), byte-most, and-*, or-*, not-*.
 -- Assumes nothing.
 use Prim.Native.Nat.{ℕ, _≤_, _<_}
 use mathlib.Core.Bool.{Bool, true, false, cond, _&&_, _||_, true≢false}
 use mathlib.Core.{Path._≡_, Path.refl, Path.sym, Path._∙_, Logic._⊎_, Logic.inl, Logic.inr, Logic.⊎-elim}
+use native.Mathlib.Omega.{arith}
 use lib.Dec.{ltb, eqb}
+use mir.Val.{boolByte}
 use borrow.Author.Tests.{ltb-true, ltb-false, leb-true, leb-false, eqb-true, eqb-false, lt-ltb, le-ltb, le-leb, lt-leb, eq-eqb, ne-eqb}
 
 -- from a test to the fact, for `omega (arith, tests)`
@@ -17,6 +19,11 @@ pub ruleset answers = (lt-ltb, le-ltb, le-leb, lt-leb, eq-eqb, ne-eqb)
 pub truth : (t : Bool) → (t ≡ true) ⊎ (t ≡ false)
 truth true = inl refl
 truth false = inr refl
+
+-- As a number, which a sum of tests adds up, it is at most 1.
+pub byte-most : (t : Bool) → boolByte t ≤ 1
+byte-most true = omega arith
+byte-most false = omega arith
 
 pub true-false-absurd : (t : Bool) → t ≡ true → t ≡ false → ⊥
 true-false-absurd t p q = true≢false (sym p ∙ q)

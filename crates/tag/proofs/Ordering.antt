@@ -1,6 +1,6 @@
 -- Laws of the number by which the code compares two tags: it holds their depths, ranks and lasts, the lesser is that of the tag that comes
 -- first, and the rule is a sum over three comparisons.
--- Vocabulary: byte-most, between-sum, in-order-*, compared-ordered.
+-- Vocabulary: sum-rule, between-*, first-*, compared-ordered.
 -- Assumes nothing.
 use Prim.Native.Nat.{ℕ, _+_, _-_, _/_, _%_, _≤_, _<_, min, max}
 use mathlib.Core.{Bool.Bool, Bool.true, Bool.false, Bool.cond, Bool._&&_, Bool._||_, Path._≡_, Logic.⊎-elim}
@@ -8,17 +8,13 @@ use native.Mathlib.Omega.{arith}
 use lib.Dec.{ltb, leb, eqb}
 use borrow.Author.Tests.{lt-ltb, le-ltb, eq-eqb, ne-eqb}
 use mir.Val.{boolByte}
-use Rattle.sequences.proofs.Tests.{equal-or-not, lt-or-ge}
+use Rattle.sequences.proofs.Tests.{byte-most, equal-or-not, lt-or-ge}
 use Rattle.interval_graph.specs.Numbers.{Numbers, comesFirst, between}
 use Rattle.tag_bytes.proofs.Fields.{Within}
 use Rattle.tag.specs.declared.pairs.PairAnswer.the-variants.{Handovers}
 use Rattle.tag.specs.Order.{orderOf, inOrder}
 use Rattle.tag.specs.Pairing.{comparedOf}
 use Rattle.tag.proofs.Pairing.{compared-first, compared-second}
-
-pub byte-most : (t : Bool) → boolByte t ≤ 1
-byte-most true = omega arith
-byte-most false = omega arith
 
 sum-rule : (rising reached around : Bool) (D : ℕ) →
     cond rising (cond (reached || around) (D + 1) (D + 2)) (cond (reached && around) D (D + 1))
@@ -30,7 +26,7 @@ sum-rule false true true D = omega arith
 sum-rule false true false D = omega arith
 sum-rule false false around D = omega (arith, byte-most around)
 
--- Of the three comparisons the rule counts how many hold.
+-- So the four cases of the rule need no branch.
 pub between-sum : (u v : Numbers) → between u v
     ≡ v .depth - u .depth + 1 + boolByte (ltb (u .rank) (v .rank))
     - (boolByte (ltb (u .rank) (v .rank)) + boolByte (leb (v .rank) (u .last)) + boolByte (ltb (u .last) (u .rank))) / 2
@@ -38,6 +34,7 @@ unfolding between
 between-sum u v = sum-rule (ltb (u .rank) (v .rank)) (leb (v .rank) (u .last)) (ltb (u .last) (u .rank)) (v .depth - u .depth)
 
 module _ (a b : Numbers) (ha : Within a) (hb : Within b) where
+  -- The numbers hold all that the rule counts with.
   between-in-order : between (inOrder (orderOf a)) (inOrder (orderOf b)) ≡ between a b
   unfolding between orderOf
   between-in-order =

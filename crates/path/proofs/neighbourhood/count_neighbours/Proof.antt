@@ -5,9 +5,10 @@ use Prim.Native.Nat.{_-_}
 use native.Mathlib.Omega.{arith}
 use denote.Ref.{now}
 use lib.Dec.{leb}
+use Rattle.sequences.proofs.Tests.{byte-most}
 use Rattle.plan.specs.Overlap.{overlaps}
 use Rattle.path.proofs.Meeting.{last-within, meets-earlier}
-use Rattle.path.proofs.Neighbouring.{Counted, counted-start, counted-turn, counted-few, one-most, counted-end, neighbours-counted}
+use Rattle.path.proofs.Neighbouring.{Counted, counted-start, counted-turn, counted-few, counted-end, neighbours-counted}
 use borrow.Author.Needs.{needs}
 use Rattle.path.proofs.neighbourhood.count_neighbours.Statement.{statement}
 use Rattle.path.proofs.neighbourhood.count_neighbours.Tie as tie
@@ -35,7 +36,7 @@ add-earlier c = let s = c .before .before in
     omega (
       arith,
       counted-few _ _ (s .loop .earlier) (s .loop .position) (s .loop .inv),
-      one-most (leb (s .before .needed-at .result) (c .end-at .result)),
+      byte-most (leb (s .before .needed-at .result) (c .end-at .result)),
     )
 
 add-position : tie.Need-add-position Inv-loop μ-loop

@@ -4,8 +4,9 @@ use Prim.Native.Nat.{ℕ}
 use mathlib.Core.{Bool.Bool, Path.sym}
 use native.Mathlib.Omega.{arith}
 use lib.Dec.{ltb, leb}
+use Rattle.sequences.proofs.Tests.{byte-most}
 use Rattle.tag.specs.Order.{inOrder}
-use Rattle.tag.proofs.Ordering.{byte-most, between-sum}
+use Rattle.tag.proofs.Ordering.{between-sum}
 use borrow.Author.Needs.{needs}
 use Rattle.tag.proofs.pairs.between.Statement.{statement}
 use Rattle.tag.proofs.pairs.between.Tie as tie
