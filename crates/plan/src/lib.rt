@@ -15,6 +15,7 @@ pub use questions::validate;
 pub use windows::Window;
 pub use windows::overlap_in_order;
 pub use windows::read_window;
+pub use windows::window_at;
 pub use windows::window_end;
 pub use windows::window_place;
 pub use windows::write_window;

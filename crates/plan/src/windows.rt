@@ -3,7 +3,7 @@ use crate::figures::HEADER_LENGTH;
 use crate::figures::WINDOW_LENGTH;
 ghost use mathlib.Core.Path.{_≡_};
 ghost use Rattle.wire.specs.LittleEndian.{placed};
-ghost use Rattle.plan.specs.File.{windowPlace, windowOf, windowBytes, endOf};
+ghost use Rattle.plan.specs.File.{windowPlace, windowOf, windowAt, windowBytes, endOf};
 ghost use Rattle.plan.specs.Overlap.{overlapInOrder};
 
 pub struct Window {
@@ -25,6 +25,17 @@ pub fn read_window(part: &[u8]) -> Window
     Window {
         offset: wire::read_u32(part, 0),
         length: wire::read_u32(part, 4),
+    }
+}
+
+// The window at a position. A byte past the end of the file is read as 0, as in its part.
+pub fn window_at(file: &[u8], position: u16) -> Window
+    ensures { λ r. ⌜ r ≡ windowAt (now (file .entry)) position ⌝ }
+{
+    let at = window_place(position);
+    Window {
+        offset: wire::read_u32(file, at),
+        length: wire::read_u32(file, at + 4),
     }
 }
 

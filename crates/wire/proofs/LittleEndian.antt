@@ -1,11 +1,11 @@
--- Laws of the numbers in bytes: past the end, ranges, bytes written over others, and the round trip both ways.
+-- Laws of the numbers in bytes: past the end, in a part, ranges, bytes written over others, and the round trip both ways.
 -- Assumes nothing.
 use Prim.Native.Nat.{ℕ, suc, _+_, _*_, _/_, _%_, _≤_, _<_}
 use mathlib.Core.{Path._≡_, Path.refl, Path.sym, Path._∙_, List.List, List.[], List._∷_, List._++_, List.append-assoc}
 use native.Mathlib.Omega.{arith}
 use native.Mathlib.Numerals.{add-one}
 use lib.ListN.{length, getD, set, take, drop, take-append-drop, length-append, length-drop, List·getD-eq-default}
-use lib.Seq.{sets, sets-eq, length-sets, take-at, drop-at, take-add, drop-drop, drop-append-add, length-take-le, drop-cons}
+use lib.Seq.{sets, sets-eq, length-sets, take-at, drop-at, take-add, drop-drop, drop-append-add, length-take-le, drop-cons, getD-take, getD-drop}
 use borrow.Author.Tests.{le-leb, lt-leb}
 use Rattle.sequences.specs.Table.{overwritten}
 use Rattle.wire.specs.LittleEndian.{le16, le32, bytes16, bytes32, placed}
@@ -24,6 +24,21 @@ le32-past l at h =
       List·getD-eq-default l 0 {n = at + 1} (omega arith),
       List·getD-eq-default l 0 {n = at + 2} (omega arith),
       List·getD-eq-default l 0 {n = at + 3} (omega arith),
+    )
+
+-- A number within a part of the bytes is the one that stands there in all of them, also where they end too soon.
+part-byte : (l : List ℕ) (p m i j : ℕ) → i < m → j ≡ p + i → getD (take m (drop p l)) i 0 ≡ getD l j 0
+part-byte l p m i j h e = rw e (getD-take m (drop p l) i 0 h ∙ getD-drop p l i 0)
+
+pub le32-part : (l : List ℕ) (p m i : ℕ) → i + 4 ≤ m → le32 (take m (drop p l)) i ≡ le32 l (p + i)
+unfolding le32
+le32-part l p m i h =
+    omega (
+      arith,
+      part-byte l p m i (p + i) (omega arith) (omega arith),
+      part-byte l p m (i + 1) (p + i + 1) (omega arith) (omega arith),
+      part-byte l p m (i + 2) (p + i + 2) (omega arith) (omega arith),
+      part-byte l p m (i + 3) (p + i + 3) (omega arith) (omega arith),
     )
 
 -- Where the bytes fit, they are stored one behind the other; where they do not, nothing is.
