@@ -8,7 +8,7 @@ use lib.ListN.{drop}
 use borrow.Author.Tests.{lt-ltb, eqb-true, eq-eqb}
 use Rattle.sequences.proofs.Tests.{truth, and-left, and-right, and-intro}
 use Rattle.interval_graph.specs.Tree.{component, depth, rank, lastRank}
-use Rattle.interval_graph.specs.Reach.{reach}
+use Rattle.interval_graph.specs.Reach.{reachBound}
 use Rattle.interval_graph.specs.Numbers.{Numbers, numbersOf}
 use Rattle.interval_graph.proofs.Reach.{reach-bound}
 use Rattle.interval_graph.proofs.Sameness.{SameNumbers}
@@ -35,7 +35,7 @@ use Rattle.demands.specs.Calls.{ReachBounds, SameOverlap, Sameness}
 
 -- For a window of an accepted plan the call answers with the theory's reach.
 reach-answered : (file : List ℕ) → AcceptedPlan file → (at : ℕ) → at < windowCount file →
-    reachAnswerOf file at ≡ ReachAnswer.Reach (reach (windowCount file) (overlaps file) at)
+    reachAnswerOf file at ≡ ReachAnswer.Reach (reachBound (windowCount file) (overlaps file) at)
 unfolding reachAnswerOf reachQuestions positionQuestion question firstNo
 reach-answered file ok at h =
     sym (plan-accepted file _ ReachAnswer.Refused _ (validateAnswerOf file) refl _ _ (accepted-validated file ok))
@@ -43,7 +43,7 @@ reach-answered file ok at h =
 
 pub reach-bounds : ReachBounds
 reach-bounds file ok at bound h e u v k hu hv p q least =
-    let same : bound ≡ reach (windowCount file) (overlaps file) at = cc (reach-answered file ok at h) in
+    let same : bound ≡ reachBound (windowCount file) (overlaps file) at = cc (reach-answered file ok at h) in
     omega (arith, reach-bound (interval-order file ok) at u v k h hu hv p q least)
 
 -- The numbers with 0 for the plan number.

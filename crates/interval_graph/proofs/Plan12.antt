@@ -7,7 +7,7 @@ use lib.{ListN.getD, Dec.ltb, Dec.eqb}
 use Rattle.sequences.specs.{Search.least, Search.greatest, Search.count, Search.passing, Lists.indexOf, Lists.total, Table.table}
 use Rattle.interval_graph.specs.Chain.{handovers, isChain, leads, joins, firstEntry, lastEntry}
 use Rattle.interval_graph.specs.Tree.{last, parent, depth, component, rank, lastRank}
-use Rattle.interval_graph.specs.{Walk.climb, Walk.walk, Walk.chainOf, Reach.lastInComponent, Reach.reach}
+use Rattle.interval_graph.specs.{Walk.climb, Walk.walk, Walk.chainOf, Reach.lastInComponent, Reach.reachBound}
 use Rattle.interval_graph.specs.Numbers.{Outcome, numbersOf, apart, no-chain, equal, comesFirst, outcomeBy, between, outcome, short, shortBetween, shortOutcome}
 use Rattle.interval_graph.specs.Forest as Forest
 
@@ -91,9 +91,9 @@ unfolding definitions climb walk chainOf
 plan-12-written = refl
 
 -- "Reach in plan 12: 4 for position 0, 1 for position 6."
-pub plan-12-reach : reach 7 overlaps 0 ∷ reach 7 overlaps 6 ∷ [] ≡ 4 ∷ 1 ∷ []
-unfolding definitions lastInComponent reach
-plan-12-reach = refl
+pub plan-12-bound : reachBound 7 overlaps 0 ∷ reachBound 7 overlaps 6 ∷ [] ≡ 4 ∷ 1 ∷ []
+unfolding definitions lastInComponent reachBound
+plan-12-bound = refl
 
 -- Why short tags are for even plans alone: the last of window 0 is 3 and that of window 1 is 2, so lasts fall, and the rule on short
 -- tags says 1 of windows 1 and 3, which are 2 apart.

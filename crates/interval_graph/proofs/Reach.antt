@@ -1,5 +1,5 @@
 -- Reach: no two windows of a component are more handovers apart than the depth of its last window plus 1.
--- Vocabulary: lastInComponent, reach, LeastHandovers.
+-- Vocabulary: lastInComponent, reachBound, LeastHandovers.
 -- Assumes nothing.
 use Prim.Native.Nat.{ℕ, _≤_, _<_}
 use mathlib.Core.{Bool.Bool, Path._≡_, Path.sym, Path.ap, Path._∙_, Logic.⊎-elim}
@@ -8,7 +8,7 @@ use lib.Dec.{eqb}
 use borrow.Author.Tests.{eqb-true, eq-eqb}
 use Rattle.sequences.proofs.Search.{greatest-ge, greatest-cases}
 use Rattle.interval_graph.specs.{Order.IntervalOrder, Chain.LeastHandovers, Tree.depth, Tree.root, Tree.component}
-use Rattle.interval_graph.specs.Reach.{lastInComponent, reach}
+use Rattle.interval_graph.specs.Reach.{lastInComponent, reachBound}
 use Rattle.interval_graph.proofs.Monotone.{depth-monotone}
 use Rattle.interval_graph.proofs.{Component.component-root, Climb.climb-le-depth, Bounds.least-le, Parent.tree}
 
@@ -34,16 +34,16 @@ module _ (n : ℕ) (overlaps : ℕ → ℕ → Bool) where
 
 module _ {n : ℕ} {overlaps : ℕ → ℕ → Bool} (ok : IntervalOrder n overlaps) where
   -- No window of v's component is as deep as its reach.
-  depth-lt-reach : (v w : ℕ) → v < n → w < n → component overlaps w ≡ component overlaps v → depth overlaps w < reach n overlaps v
-  unfolding reach
+  depth-lt-reach : (v w : ℕ) → v < n → w < n → component overlaps w ≡ component overlaps v → depth overlaps w < reachBound n overlaps v
+  unfolding reachBound
   depth-lt-reach v w h g e =
       let z = lastInComponent n overlaps v in let r = component-root (tree overlaps) w z (e ∙ sym (lastInComponent-component n overlaps v)) in
       omega (arith, depth-monotone ok w z (lastInComponent-greatest n overlaps v w g e) (lastInComponent-window n overlaps v h) r)
 
   -- No two windows of v's component are more handovers apart than its reach.
   pub reach-bound : (v a b k : ℕ) → v < n → a < n → b < n → component overlaps a ≡ component overlaps v →
-      component overlaps b ≡ component overlaps v → LeastHandovers n overlaps a b k → k ≤ reach n overlaps v
+      component overlaps b ≡ component overlaps v → LeastHandovers n overlaps a b k → k ≤ reachBound n overlaps v
   reach-bound v a b k h g l p q c =
       let e : root overlaps a ≡ root overlaps b = component-root (tree overlaps) a b (p ∙ sym q) in
-      least-le ok a b k (reach n overlaps v) g l c (λ s. omega (arith, climb-le-depth ok a b e, depth-lt-reach v b h l q))
+      least-le ok a b k (reachBound n overlaps v) g l c (λ s. omega (arith, climb-le-depth ok a b e, depth-lt-reach v b h l q))
       (λ s. omega (arith, climb-le-depth ok b a (sym e), depth-lt-reach v a h g p))

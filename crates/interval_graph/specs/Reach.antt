@@ -1,6 +1,6 @@
 -- Paper 01, "Calls on a plan": reach. "The reach of a position's component is the depth of its last window plus 1; no two
 -- windows of the component are more handovers apart than that."
--- Vocabulary: lastInComponent, reach.
+-- Vocabulary: lastInComponent, reachBound.
 use Prim.Native.Nat.{ℕ, suc}
 use mathlib.Core.Bool.{Bool}
 use lib.Dec.{eqb}
@@ -12,5 +12,5 @@ module _ (n : ℕ) (overlaps : ℕ → ℕ → Bool) where
   unfoldable pub lastInComponent : ℕ → ℕ
   lastInComponent v = greatest (λ w. eqb (component overlaps w) (component overlaps v)) n v
 
-  unfoldable pub reach : ℕ → ℕ
-  reach v = suc (depth overlaps (lastInComponent v))
+  unfoldable pub reachBound : ℕ → ℕ
+  reachBound v = suc (depth overlaps (lastInComponent v))

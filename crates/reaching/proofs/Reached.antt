@@ -12,7 +12,7 @@ use borrow.Author.Tests.{lt-ltb, le-ltb}
 use Rattle.sequences.specs.Table.{Holds}
 use Rattle.sequences.proofs.Tests.{lt-or-ge}
 use Rattle.interval_graph.specs.Tree.{component, depth}
-use Rattle.interval_graph.specs.Reach.{lastInComponent, reach}
+use Rattle.interval_graph.specs.Reach.{lastInComponent, reachBound}
 use Rattle.interval_graph.proofs.Parent.{tree}
 use Rattle.interval_graph.proofs.Depth.{depth-le}
 use Rattle.interval_graph.proofs.Monotone.{component-contiguous}
@@ -76,8 +76,8 @@ module _ {file : List ℕ} {windows : ℕ} (plan : AcceptedWindows file windows)
       (overlaps file) at)) ∙ sym (here at start))))) (λ l. l) (lt-or-ge last end))
 
   -- The reach is one more than the depth there, which is small.
-  pub reach-depth : getD depths last 0 + 1 ≡ reach windows (overlaps file) at
-  unfolding depthOf reach
+  pub reach-depth : getD depths last 0 + 1 ≡ reachBound windows (overlaps file) at
+  unfolding depthOf reachBound
   reach-depth = rw (add-one (getD depths last 0)) (ap suc (d .at last (s .high) ∙ ap (depth (overlaps file)) run-last))
 
   pub reach-fits : getD depths last 0 < greatestCount
@@ -97,7 +97,7 @@ module _ {file : List ℕ} {windows : ℕ} (plan : AcceptedWindows file windows)
       rw (← plan .counted)
       (one-more-no file (positionQuestion at windows) Refused _ _ refl _ _ (accepted-validated file (plan .accepted)) (le-ltb at windows beyond))
 
-  pub reach-found : (r : ℕ) → at < windows → r ≡ reach windows (overlaps file) at → Reach r ≡ reachAnswerOf file at
+  pub reach-found : (r : ℕ) → at < windows → r ≡ reachBound windows (overlaps file) at → Reach r ≡ reachAnswerOf file at
   unfolding reachAnswerOf reachQuestions positionQuestion question
   reach-found r within found =
       rw (found, ← plan .counted)

@@ -2,7 +2,7 @@
 -- Vocabulary: reachQuestions, reachAnswerOf.
 use Prim.Native.Nat.{ℕ}
 use mathlib.Core.List.{List, [], _∷_, _++_}
-use Rattle.interval_graph.specs.Reach.{reach}
+use Rattle.interval_graph.specs.Reach.{reachBound}
 use Rattle.refusals.specs.Question.{Question, positionQuestion, firstNo}
 use Rattle.plan.specs.File.{windowCount}
 use Rattle.plan.specs.Overlap.{overlaps}
@@ -15,4 +15,4 @@ unfoldable pub reachQuestions : List ℕ → ℕ → List Question
 reachQuestions file at = planQuestions file ++ (positionQuestion at (windowCount file) ∷ [])
 
 unfoldable pub reachAnswerOf : List ℕ → ℕ → ReachAnswer
-reachAnswerOf file at = firstNo (reachQuestions file at) Refused (Reach (reach (windowCount file) (overlaps file) at))
+reachAnswerOf file at = firstNo (reachQuestions file at) Refused (Reach (reachBound (windowCount file) (overlaps file) at))
