@@ -7,6 +7,7 @@
 --   Before                                     the order of ranks
 --   Level, Rule                                that the rule on two windows' numbers gives the least count
 --   Bounds, Reach, Sameness                    how great the numbers become, and what they say of the whole
+--   Farthest, Greatest                         reach: the definition and its meaning, and how it is had without looking at pairs
 --   Outcome                                    the rule on any two windows' numbers, in either order
 --   Even                                       where lasts do not fall, the rule on short tags says the same
 --   Plan12                                     the worked example, by computation
@@ -29,6 +30,8 @@ pub mod Level
 pub mod Rule
 pub mod Bounds
 pub mod Reach
+pub mod Farthest
+pub mod Greatest
 pub mod Sameness
 pub mod Outcome
 pub mod Even

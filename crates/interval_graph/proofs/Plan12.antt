@@ -3,11 +3,12 @@
 -- Assumes nothing.
 use Prim.Native.Nat.{ℕ, _+_, min, max}
 use mathlib.Core.{Bool.Bool, Bool.true, Bool.not, Bool._&&_, Path._≡_, Path.refl, List.List, List.[], List._∷_, List.flatMap}
-use lib.{ListN.getD, Dec.ltb, Dec.eqb}
+use lib.{ListN.getD, Dec.ltb, Dec.leb, Dec.eqb}
 use Rattle.sequences.specs.{Search.least, Search.greatest, Search.count, Search.passing, Lists.indexOf, Lists.total, Table.table}
 use Rattle.interval_graph.specs.Chain.{handovers, isChain, leads, joins, firstEntry, lastEntry}
 use Rattle.interval_graph.specs.Tree.{last, parent, depth, component, rank, lastRank}
 use Rattle.interval_graph.specs.{Walk.climb, Walk.walk, Walk.chainOf, Reach.lastInComponent, Reach.reachBound}
+use Rattle.interval_graph.specs.Reach.{handoversBetween, inComponent, partner, firstWith, reach, smaller, larger}
 use Rattle.interval_graph.specs.Numbers.{Outcome, numbersOf, apart, no-chain, equal, comesFirst, outcomeBy, between, outcome, short, shortBetween, shortOutcome}
 use Rattle.interval_graph.specs.Forest as Forest
 
@@ -90,9 +91,29 @@ pub plan-12-written : chainOf 7 overlaps 0 5 ∷ chainOf 7 overlaps 3 5 ∷ chai
 unfolding definitions climb walk chainOf
 plan-12-written = refl
 
--- "Reach in plan 12: 4 for position 0, 1 for position 6."
+-- Q-5: "The cases become 3 for position 0, pair 0 and 5, and 0 for position 6", whose pair is 6 and 6.
+unfoldable pub reached : ℕ → List ℕ
+reached at = reach 7 overlaps at ∷ smaller 7 overlaps at ∷ larger 7 overlaps at ∷ []
+
+pub plan-12-reach : reached 0 ∷ reached 6 ∷ [] ≡ (3 ∷ 0 ∷ 5 ∷ []) ∷ (0 ∷ 6 ∷ 6 ∷ []) ∷ []
+unfolding definitions climb walk chainOf reached handoversBetween inComponent partner firstWith reach smaller larger
+plan-12-reach = refl
+
+-- The first pair need not begin at the component's first window: of windows with lasts 3 1 3 3 it is 1 and 2. And the smaller position decides:
+-- with lasts 5 3 2 5 5 5 windows 2 and 3 are as far apart as 1 and 4.
+unfoldable pub upTo : List ℕ → ℕ → ℕ → Bool
+upTo lasts u v = not (eqb u v) && leb (max u v) (getD lasts (min u v) 0)
+
+unfoldable pub reachedBy : ℕ → List ℕ → List ℕ
+reachedBy n lasts = reach n (upTo lasts) 0 ∷ smaller n (upTo lasts) 0 ∷ larger n (upTo lasts) 0 ∷ []
+
+pub behind-the-root : reachedBy 4 (3 ∷ 1 ∷ 3 ∷ 3 ∷ []) ∷ reachedBy 6 (5 ∷ 3 ∷ 2 ∷ 5 ∷ 5 ∷ 5 ∷ []) ∷ [] ≡ (2 ∷ 1 ∷ 2 ∷ []) ∷ (2 ∷ 1 ∷ 4 ∷ []) ∷ []
+unfolding definitions climb walk chainOf upTo reachedBy handoversBetween inComponent partner firstWith reach smaller larger
+behind-the-root = refl
+
+-- The bound that was paper 01's reach: 4 for position 0, 1 for position 6.
 pub plan-12-bound : reachBound 7 overlaps 0 ∷ reachBound 7 overlaps 6 ∷ [] ≡ 4 ∷ 1 ∷ []
-unfolding definitions lastInComponent reachBound
+unfolding definitions inComponent lastInComponent reachBound
 plan-12-bound = refl
 
 -- Why short tags are for even plans alone: the last of window 0 is 3 and that of window 1 is 2, so lasts fall, and the rule on short

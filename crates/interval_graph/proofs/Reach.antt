@@ -8,27 +8,27 @@ use lib.Dec.{eqb}
 use borrow.Author.Tests.{eqb-true, eq-eqb}
 use Rattle.sequences.proofs.Search.{greatest-ge, greatest-cases}
 use Rattle.interval_graph.specs.{Order.IntervalOrder, Chain.LeastHandovers, Tree.depth, Tree.root, Tree.component}
-use Rattle.interval_graph.specs.Reach.{lastInComponent, reachBound}
+use Rattle.interval_graph.specs.Reach.{inComponent, lastInComponent, reachBound}
 use Rattle.interval_graph.proofs.Monotone.{depth-monotone}
 use Rattle.interval_graph.proofs.{Component.component-root, Climb.climb-le-depth, Bounds.least-le, Parent.tree}
 
 module _ (n : ℕ) (overlaps : ℕ → ℕ → Bool) where
   -- The last window of v's component is a window.
   pub lastInComponent-window : (v : ℕ) → v < n → lastInComponent n overlaps v < n
-  unfolding lastInComponent
+  unfolding lastInComponent inComponent
   lastInComponent-window v h =
       ⊎-elim (λ c. c .0) (λ c. omega arith) (greatest-cases (λ w. eqb (component overlaps w) (component overlaps v)) n v)
 
   -- It is in v's component.
   pub lastInComponent-component : (v : ℕ) → component overlaps (lastInComponent n overlaps v) ≡ component overlaps v
-  unfolding lastInComponent
+  unfolding lastInComponent inComponent
   lastInComponent-component v =
       ⊎-elim (λ c. eqb-true _ (component overlaps v) (c .1)) (λ c. ap (component overlaps) (c .0))
       (greatest-cases (λ w. eqb (component overlaps w) (component overlaps v)) n v)
 
   -- No window of v's component stands behind it.
   pub lastInComponent-greatest : (v w : ℕ) → w < n → component overlaps w ≡ component overlaps v → w ≤ lastInComponent n overlaps v
-  unfolding lastInComponent
+  unfolding lastInComponent inComponent
   lastInComponent-greatest v w h e =
       greatest-ge (λ w. eqb (component overlaps w) (component overlaps v)) n v w h (eq-eqb (component overlaps w) (component overlaps v) e)
 

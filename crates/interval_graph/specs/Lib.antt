@@ -5,7 +5,7 @@
 --   Forest   depth, root, component, post-order and rank of any parent function
 --   Tree     last and parent, and the forest of these parents
 --   Walk     the chain that is written between two windows
---   Reach    the last window of a component, and how far apart its windows can be
+--   Reach    how far apart the windows of a component are, and the first two that are
 --   Numbers  the five numbers of a window, and what two windows' numbers say of their distance; the same without the fifth
 pub mod Chain
 pub mod Order
