@@ -1,50 +1,27 @@
--- What is said of reach and of sameness: the theory's bound at an accepted file, and that two accepted plans are the same exactly if
--- their tag files are equal apart from the plan number.
+-- What is said of sameness: two accepted plans are the same exactly if their tag files are equal apart from the plan number.
 -- Assumes nothing.
 use Prim.Native.Nat.{ℕ, _<_}
 use mathlib.Core.{Bool.true, Bool.cond, Path._≡_, Path.refl, Path.sym, Path.ap, Path._∙_, Logic._↔_, Logic.⊎-elim, List.List, List._++_}
 use native.Mathlib.Omega.{arith}
 use lib.ListN.{drop}
-use borrow.Author.Tests.{lt-ltb, eqb-true, eq-eqb}
+use borrow.Author.Tests.{eqb-true, eq-eqb}
 use Rattle.sequences.proofs.Tests.{truth, and-left, and-right, and-intro}
 use Rattle.interval_graph.specs.Tree.{component, depth, rank, lastRank}
-use Rattle.interval_graph.specs.Reach.{reachBound}
 use Rattle.interval_graph.specs.Numbers.{Numbers, numbersOf}
-use Rattle.interval_graph.proofs.Reach.{reach-bound}
 use Rattle.interval_graph.proofs.Sameness.{SameNumbers}
 use Rattle.wire.specs.LittleEndian.{bytes16}
-use Rattle.refusals.specs.Question.{question, firstNo, positionQuestion}
 use Rattle.plan.specs.File.{windowCount}
 use Rattle.plan.specs.Overlap.{overlaps}
-use Rattle.plan.specs.Validation.{AcceptedPlan, validateAnswerOf}
-use Rattle.plan.proofs.Accepted.{accepted-validated}
-use Rattle.plan.proofs.Calls.{plan-accepted}
-use Rattle.plan.proofs.Overlap.{interval-order}
 use Rattle.tag_bytes.specs.declared.reader.Tag.{Tag}
 use Rattle.tag_bytes.specs.Fields.{tagOf, tagWith, tagBytes, shortBytes}
 use Rattle.tag_bytes.proofs.Fields.{tagOf-tagBytes}
 use Rattle.tag_bytes.proofs.TagFile.{tagFile-lookup}
-use Rattle.reaching.specs.declared.ReachAnswer.the-variants as ReachAnswer
 use Rattle.numbering.specs.Tables.{numbersAt}
-use Rattle.reaching.specs.Reach.{reachQuestions, reachAnswerOf}
 use Rattle.sameness.specs.declared.SameAnswer.the-variants as SameAnswer
 use Rattle.sameness.specs.Sameness.{sameOverlap, sameAnswerOf}
 use Rattle.sameness.proofs.Sameness.{pairs-iff-overlaps, same-iff-numbers, compared}
 use Rattle.demands.specs.EndToEnd.{tagAt}
-use Rattle.demands.specs.Calls.{ReachBounds, SameOverlap, Sameness}
-
--- For a window of an accepted plan the call answers with the theory's reach.
-reach-answered : (file : List ℕ) → AcceptedPlan file → (at : ℕ) → at < windowCount file →
-    reachAnswerOf file at ≡ ReachAnswer.Reach (reachBound (windowCount file) (overlaps file) at)
-unfolding reachAnswerOf reachQuestions positionQuestion question firstNo
-reach-answered file ok at h =
-    sym (plan-accepted file _ ReachAnswer.Refused _ (validateAnswerOf file) refl _ _ (accepted-validated file ok))
-    ∙ rw (lt-ltb at (windowCount file) h)
-
-pub reach-bounds : ReachBounds
-reach-bounds file ok at bound h e u v k hu hv p q least =
-    let same : bound ≡ reachBound (windowCount file) (overlaps file) at = cc (reach-answered file ok at h) in
-    omega (arith, reach-bound (interval-order file ok) at u v k h hu hv p q least)
+use Rattle.demands.specs.Calls.{SameOverlap, Sameness}
 
 -- The numbers with 0 for the plan number.
 unplanned : Numbers → Numbers

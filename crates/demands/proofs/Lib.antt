@@ -1,13 +1,14 @@
--- The statements of specs/, proved: Refusals, Tree, EndToEnd (`demand-3`, in Counts), Calls, Short, Cases, Minimum, Page.
+-- The statements of specs/, proved: Refusals, Tree, EndToEnd (`demand-3`, in Counts), Calls, Short, Cases, Minimum, Page, Reach.
 --   Refusals  demand 1
 --   Tree      demand 2
 --   Counts    demand 3, of the definitions that the calls answer by
 --   Running   what the call that runs everything needs of them
---   Calls     reach and sameness
+--   Calls     sameness
 --   Short     Q-1: short tags
 --   Cases     the cases marked P, and those of Q-2
 --   Minimum   Q-2: the minimum handover
 --   Page      Q-4: a page of pairs
+--   Reach     Q-5: reach exactly
 pub mod Refusals
 pub mod Tree
 pub mod Counts
@@ -17,3 +18,4 @@ pub mod Short
 pub mod Cases
 pub mod Minimum
 pub mod Page
+pub mod Reach

@@ -27,14 +27,14 @@ use Rattle.page.specs.declared.PageAnswer.the-variants as PageAnswer
 use Rattle.page.specs.Page.{queryQuestions, pageAnswerOf, ifFilled, afterPage}
 use Rattle.page.proofs.Filled.{query-asked}
 use Rattle.numbering.specs.declared.answers.BuildAnswer.the-variants as BuildAnswer
-use Rattle.reaching.specs.declared.ReachAnswer.the-variants as ReachAnswer
+use Rattle.reaching.specs.declared.answers.ReachAnswer.the-variants as ReachAnswer
 use Rattle.minutes.specs.declared.answers.TableAnswer.the-variants as TableAnswer
 use Rattle.numbering.specs.Numbering.{numbersAnswerOf, afterBuild}
 use Rattle.tree.specs.Build.{buildAnswerOf, tagsAnswerOf, afterTags}
 use Rattle.minutes.specs.SingleTable.{tableAnswerOf, afterTable}
 use Rattle.minutes.specs.EvenTable.{evenTableAnswerOf}
 use Rattle.even_tags.specs.ShortTags.{shortTagsAnswerOf, afterShortTags}
-use Rattle.reaching.specs.Reach.{reachAnswerOf}
+use Rattle.reaching.specs.Reach.{reachIn, reachOf, reachAnswerOf}
 use Rattle.path.specs.declared.answers.ChainAnswer.the-variants as ChainAnswer
 use Rattle.path.specs.declared.answers.NeighboursAnswer.the-variants as NeighboursAnswer
 use Rattle.sameness.specs.declared.SameAnswer.the-variants as SameAnswer
@@ -82,7 +82,7 @@ refuses-as : {A : Type 0} {qs : List Question} {refused : Refusal → A} {answer
 refuses-as e by r = (λ f. by r .0 (e ∙ f), λ m. sym e ∙ by r .1 m)
 
 pub demand-1 : Demand1
-unfolding validateAnswerOf numbersAnswerOf buildAnswerOf tagsAnswerOf tableAnswerOf reachAnswerOf chainAnswerOf neighboursAnswerOf sameAnswerOf
+unfolding validateAnswerOf numbersAnswerOf buildAnswerOf tagsAnswerOf tableAnswerOf reachIn reachOf reachAnswerOf chainAnswerOf neighboursAnswerOf sameAnswerOf
     readAnswerOf writeAnswerOf lookupAnswerOf pairAnswerOf pairAtAnswerOf afterBuild afterTags afterTable afterChain afterNeighbours
     afterWrite shortTagsAnswerOf evenTableAnswerOf shortReadAnswerOf shortWriteAnswerOf shortPairAnswerOf shortPairAtAnswerOf afterShortTags
     afterShortWrite pageAnswerOf ifFilled afterPage queryQuestions

@@ -29,7 +29,7 @@ use Rattle.tree.specs.Build.{buildQuestions, buildAnswerOf, tagsQuestions, tags
 use Rattle.even_tags.specs.ShortTags.{shortTagsQuestions, shortTagsAnswerOf, afterShortTags}
 use Rattle.numbering.specs.declared.answers.BuildAnswer.the-variants as BuildAnswer
 use Rattle.reaching.specs.Reach.{reachQuestions, reachAnswerOf}
-use Rattle.reaching.specs.declared.ReachAnswer.the-variants as ReachAnswer
+use Rattle.reaching.specs.declared.answers.ReachAnswer.the-variants as ReachAnswer
 use Rattle.path.specs.Chain.{chainQuestions, chainAnswerOf, afterChain}
 use Rattle.path.specs.Neighbours.{neighboursQuestions, neighboursAnswerOf, afterNeighbours}
 use Rattle.sameness.specs.Sameness.{sameQuestions, sameAnswerOf}

@@ -9,8 +9,8 @@ use Rattle.plan.specs.declared.questions.Validation.{Validation}
 use Rattle.plan.specs.declared.questions.Validation.the-variants as validation
 use Rattle.numbering.specs.declared.answers.BuildAnswer.{BuildAnswer}
 use Rattle.numbering.specs.declared.answers.BuildAnswer.the-variants as build
-use Rattle.reaching.specs.declared.ReachAnswer.{ReachAnswer}
-use Rattle.reaching.specs.declared.ReachAnswer.the-variants as reach
+use Rattle.reaching.specs.declared.answers.ReachAnswer.{ReachAnswer}
+use Rattle.reaching.specs.declared.answers.ReachAnswer.the-variants as reach
 use Rattle.path.specs.declared.answers.ChainAnswer.{ChainAnswer}
 use Rattle.path.specs.declared.answers.ChainAnswer.the-variants as chain
 use Rattle.path.specs.declared.answers.NeighboursAnswer.{NeighboursAnswer}
@@ -44,9 +44,9 @@ unfoldable pub packedBuild : BuildAnswer → ℕ
 packedBuild (build.Built plan windows components) = packed 2 plan windows components
 packedBuild (build.Refused r) = packedRefusal r
 
--- "The reach of a position's component"
+-- "the greatest number of handovers …" and "the first pair that has it"
 unfoldable pub packedReach : ReachAnswer → ℕ
-packedReach (reach.Reach handovers) = packed 3 handovers 0 0
+packedReach (reach.Reach handovers smaller larger) = packed 3 handovers smaller larger
 packedReach (reach.Refused r) = packedRefusal r
 
 -- "Chain writes from the later window to the earlier", and so many entries; kind 5 is "no chain", which a pair of tags

@@ -59,7 +59,11 @@ pub fn pack_reach(answer: ReachAnswer) -> u64
     ensures { λ r. ⌜ r ≡ packedReach answer ⌝ }
 {
     match answer {
-        ReachAnswer::Reach(handovers) => pack(3, handovers, 0, 0),
+        ReachAnswer::Reach {
+            handovers,
+            smaller,
+            larger,
+        } => pack(3, handovers, smaller, larger),
         ReachAnswer::Refused(refusal) => pack_refusal(refusal),
     }
 }

@@ -68,7 +68,7 @@ pub extern "C" fn poddreshi_short_tags(file: &[u8], tags: &mut [u8]) -> u64
     pack_build(even_tags::short_tag_file(file, tags))
 }
 
-// The reach of a position's component.
+// The greatest number of handovers between two windows of a position's component, and the first pair that has it.
 #[no_mangle]
 pub extern "C" fn poddreshi_reach(file: &[u8], at: usize) -> u64
     ensures { λ r. ⌜ r ≡ packedReach (reachAnswerOf (now (file .entry)) at) ⌝ }
