@@ -41,7 +41,7 @@
 #define PODDRESHI_H
 
 /* The version of the library that this header belongs to. */
-#define PODDRESHI_VERSION "2.1.0"
+#define PODDRESHI_VERSION "3.0.0"
 
 #include <stddef.h>
 #include <stdint.h>
@@ -101,8 +101,11 @@ uint64_t poddreshi_tags(const uint8_t *file, size_t file_length, uint8_t *tags, 
  * BUILT, as build answers. The first 8 n bytes of tags are the short tags in order of position. */
 uint64_t poddreshi_short_tags(const uint8_t *file, size_t file_length, uint8_t *tags, size_t tags_length);
 
-/* The reach of a position's component: the depth of its last window plus 1. The plan's questions and 7.
- * REACH: a number of handovers. No two windows of the component are more handovers apart. */
+/* How far apart two windows of a position's component are at most. The plan's questions and 7.
+ * REACH: the greatest number of handovers between two windows of the component, each two counted by their shortest chain; and then
+ *     the smaller and the larger position of the first two that are so far apart, by smaller position and then by larger. The
+ *     component's first window need not be one of them. Of a window alone it is 0, and that window twice. Before version 3.0.0
+ *     the number was a bound, and the other two fields were 0. */
 uint64_t poddreshi_reach(const uint8_t *file, size_t file_length, size_t at);
 
 /* The chain between two windows. The plan's questions, 7 for the first position and then the second, and 8 where there is a
@@ -189,6 +192,10 @@ static inline unsigned poddreshi_components(uint64_t answer) { return poddreshi_
 
 /* Of HANDOVERS, REACH, CHAIN (entries) and NEIGHBOURS. */
 static inline unsigned poddreshi_count(uint64_t answer) { return poddreshi_field(answer, 1); }
+
+/* Of REACH: the positions of its two windows. */
+static inline unsigned poddreshi_smaller(uint64_t answer) { return poddreshi_field(answer, 2); }
+static inline unsigned poddreshi_larger(uint64_t answer) { return poddreshi_field(answer, 3); }
 
 #ifdef __cplusplus
 }

@@ -37,7 +37,11 @@ static void check_plan(void) {
     uint64_t answer = poddreshi_validate(file, sizeof file);
 
     check(is(answer, PODDRESHI_ACCEPTED, 12, 7, 0) && poddreshi_plan(answer) == 12 && poddreshi_windows(answer) == 7, "validate");
-    check(is(poddreshi_reach(file, sizeof file, 0), PODDRESHI_REACH, 4, 0, 0), "reach");
+    answer = poddreshi_reach(file, sizeof file, 1);
+    check(is(answer, PODDRESHI_REACH, 3, 0, 5) && poddreshi_count(answer) == 3, "reach");
+    check(poddreshi_smaller(answer) == 0 && poddreshi_larger(answer) == 5, "the pair of a reach");
+    check(is(poddreshi_reach(file, sizeof file, 6), PODDRESHI_REACH, 0, 6, 6), "reach of a window alone");
+    check(refused(poddreshi_reach(file, sizeof file, 7), 7, 0, 0), "reach of a position past the last");
     check(is(poddreshi_chain(file, sizeof file, 3, 5, out, 7), PODDRESHI_CHAIN, 4, 0, 0), "chain");
     check(memcmp(out, chain, sizeof chain) == 0, "entries of the chain");
     check(is(poddreshi_chain(file, sizeof file, 5, 6, out, 7), PODDRESHI_NO_CHAIN, 0, 0, 0), "no chain");

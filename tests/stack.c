@@ -37,11 +37,12 @@ static void short_pair(void) { poddreshi_short_pair(short_tags, 8, short_tags + 
 static void short_pair_at(void) { poddreshi_short_pair_at(short_tags, sizeof short_tags, 3, 700); }
 static void write_short(void) { poddreshi_short_write(12, 0, 2, 2, short_tags, sizeof short_tags); }
 
-/* The calls on tags stand behind those that write them, and those that write over a tag behind the calls on it. */
+/* The calls on tags stand behind those that write them, and those that write over a tag behind the calls on it. Reach and chain are
+ * held to less than the header says: to the one table of parents, 4,096 bytes, that each of them fills. */
 static const struct { const char *name; void (*call)(void); long most; } calls[] = {
     {"nothing", nothing, 0},           {"validate", validate, 17000},         {"build", build, 17000},
-    {"tags", tag_file, 38000},         {"short_tags", short_tag_file, 38000}, {"reach", reach, 17000},
-    {"chain", chain, 17000},           {"neighbours", neighbours, 17000},     {"same", same, 17000},
+    {"tags", tag_file, 38000},         {"short_tags", short_tag_file, 38000}, {"reach", reach, 5000},
+    {"chain", chain, 5000},            {"neighbours", neighbours, 17000},     {"same", same, 17000},
     {"pair", pair, 100},               {"pair_at", pair_at, 100},             {"page", page, 100},
     {"lookup", lookup, 100},           {"short_pair_at", short_pair_at, 100}, {"short_pair", short_pair, 100},
     {"write", write_tag, 100},         {"short_write", write_short, 100},
