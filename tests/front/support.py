@@ -2,6 +2,7 @@
 import ctypes
 import os
 import random
+import resource
 import shutil
 import struct
 import subprocess
@@ -127,6 +128,11 @@ def forked(words, environment, stdin, stdout, cwd, preexec_fn=lambda: None) -> s
     return subprocess.CompletedProcess(words, status, drains[1][1][0] if out else None, drains[0][1][0])
 
 
+def at_most(length):
+    """In a child: no file grows past this many bytes."""
+    return lambda: resource.setrlimit(resource.RLIMIT_FSIZE, (length, length))
+
+
 class Case(unittest.TestCase):
     """A test with a folder of its own."""
 
@@ -181,3 +187,17 @@ class Case(unittest.TestCase):
         self.assertIn(about, error)
         self.assertNotIn("Traceback", error)
         return error
+
+
+class OldFile(Case):
+    """A test with a file that an output may replace."""
+
+    def setUp(self):
+        super().setUp()
+        self.old = self.folder / "old"
+        self.old.write_bytes(b"as it was")
+
+    def unchanged(self, *beside):
+        """It is as it was, and nothing stands there but it and these."""
+        self.assertEqual(self.old.read_bytes(), b"as it was")
+        self.assertEqual(sorted(path.name for path in self.folder.iterdir()), sorted(["old", *beside]))

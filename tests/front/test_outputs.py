@@ -1,13 +1,12 @@
 """Outputs that are whole or not there, and inputs that are read no further than they need be."""
 import os
-import resource
 import signal
 import subprocess
 import sys
 import time
 import unittest
 
-from support import EXAMPLES, FRONT, PLAN_12, PYTHON, ROOT, TAGS_12, Case, line_plan, needs_modes, obey_modes
+from support import EXAMPLES, FRONT, PLAN_12, PYTHON, ROOT, TAGS_12, Case, OldFile, at_most, line_plan, needs_modes, obey_modes
 
 PLAN_31 = EXAMPLES / "plan-31.plan"
 WRITING = (
@@ -23,11 +22,6 @@ WRITING = (
     ("--version",),
 )
 RIGS = b"Rig 10 16\n"
-
-
-def at_most(length):
-    """In a child: no file grows past this many bytes."""
-    return lambda: resource.setrlimit(resource.RLIMIT_FSIZE, (length, length))
 
 
 class StandardOutput(Case):
@@ -78,16 +72,7 @@ class StandardOutput(Case):
             self.assertEqual(front.returncode, 0)
 
 
-class OutputFile(Case):
-    def setUp(self):
-        super().setUp()
-        self.old = self.folder / "old"
-        self.old.write_bytes(b"as it was")
-
-    def unchanged(self):
-        self.assertEqual(self.old.read_bytes(), b"as it was")
-        self.assertEqual([path.name for path in self.folder.iterdir()], ["old"])
-
+class OutputFile(OldFile):
     def test_the_file_is_replaced(self):
         self.old.chmod(0o640)
         self.answers("tags", EXAMPLES / "plan-12.plan", "-o", "old")

@@ -4,10 +4,9 @@ import io
 import json
 import os
 import random
-import resource
 import unittest
 
-from support import EXAMPLES, FRONT, SHORT_TAGS, TAGS_12, Case, line_plan, plan, random_windows, refusal
+from support import EXAMPLES, FRONT, SHORT_TAGS, TAGS_12, Case, OldFile, at_most, line_plan, plan, random_windows, refusal
 
 import poddreshi
 
@@ -341,18 +340,12 @@ class Commands(Case):
                 self.assertEqual(self.run_front(*words, stdin_file=endless).returncode, 3)
 
 
-class Outputs(Case):
+class Outputs(OldFile):
     """Whole or not there in a file; on a pipe as far as it is read. The table has many pages."""
 
     def setUp(self):
         super().setUp()
         self.tags = self.file("line.tags", poddreshi.tags(line_plan(200)).tags)
-        self.old = self.folder / "old"
-        self.old.write_bytes(b"as it was")
-
-    def unchanged(self):
-        self.assertEqual(self.old.read_bytes(), b"as it was")
-        self.assertEqual(sorted(path.name for path in self.folder.iterdir()), ["line.tags", "old"])
 
     def test_a_file_is_replaced_when_all_is_there(self):
         for form in ((), ("--csv",), ("--json",)):
@@ -363,15 +356,12 @@ class Outputs(Case):
         self.assertEqual((self.folder / "line.tags").read_bytes(), b"0  9  9 handovers\n")
 
     def test_the_old_file_stays(self):
-        def at_most(length):
-            return lambda: resource.setrlimit(resource.RLIMIT_FSIZE, (length, length))
-
         for length in (20, 300_000):
             self.fails(3, "page", self.tags, "--all", "-o", "old", preexec_fn=at_most(length), about="old: file too large")
-            self.unchanged()
+            self.unchanged("line.tags")
         self.fails(1, "page", self.tags, "-o", "old", stdin=b"1\n")
         self.fails(1, "page", "-", "--all", "-o", "old", stdin=b"\0")
-        self.unchanged()
+        self.unchanged("line.tags")
 
     def test_a_full_disk_and_closed_streams(self):
         with open("/dev/full", "wb") as full:
