@@ -19,7 +19,7 @@ class Names(list):
         """The position that a word of the command means: a number, or the name of one window."""
         if NUMBER.fullmatch(word):
             return int(word)
-        found = [position for position, name in enumerate(self) if name == word]
+        found = [position for position, name in enumerate(self) if name and name == word]
         if len(found) == 1:
             return found[0]
         if found:
