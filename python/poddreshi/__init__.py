@@ -4,6 +4,8 @@
     >>> plan = pathlib.Path("examples/plan-12.plan").read_bytes()
     >>> poddreshi.chain(plan, 1, 5)
     Chain(positions=(5, 4, 2, 1))
+    >>> poddreshi.reach(plan, 1)
+    Reach(handovers=3, smaller=0, larger=5)
     >>> tags = poddreshi.tags(plan).tags
     >>> print(poddreshi.pair(tags[40:50], tags[50:60]))
     1 handover

@@ -85,12 +85,15 @@ class Neighbours(NamedTuple):
 
 
 class Reach(NamedTuple):
-    """A bound: no two windows of the component are more handovers apart."""
+    """The greatest number of handovers between two windows of a component, and the first pair that has it, by smaller position and
+    then by larger. Of a component of one window it is 0, and its window twice."""
 
-    bound: int
+    handovers: int
+    smaller: int
+    larger: int
 
     def __str__(self) -> str:
-        return f"at most {Handovers(self.bound)} between any two windows of its component"
+        return f"{self.handovers}: from {self.smaller} to {self.larger}"
 
 
 class Sameness(NamedTuple):
@@ -137,9 +140,11 @@ def tags(file, form: TagForm = LONG) -> Tags:
 
 
 def reach(file, at: int) -> Reach:
-    """A bound on the handovers between any two windows of a window's component."""
-    _, (bound, _, _) = _ask("reach", Asked(plans=[file], positions=[at]), *lend(file), position(at))
-    return Reach(bound)
+    """How many handovers two windows of a window's component are apart at most, and the first two that are."""
+    _, (handovers, smaller, larger) = _ask("reach", Asked(plans=[file], positions=[at]), *lend(file), position(at))
+    if handovers and smaller == larger:  # so only a library of before version 3 answers: a bound, with 0 and 0 for the pair
+        raise library.older()
+    return Reach(handovers, smaller, larger)
 
 
 def chain(file, first: int, second: int) -> Chain:

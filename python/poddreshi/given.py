@@ -1,5 +1,5 @@
 """A plan that is answered from, with its names and its dates."""
-from typing import List, NamedTuple
+from typing import List, NamedTuple, Sequence
 
 from .names import Names
 from .plans import Window, minimum_of
@@ -29,11 +29,7 @@ class Given(NamedTuple):
 
     def data(self, position: int) -> dict:
         """The same for JSON."""
-        window = self.windows[position]
-        data = {"position": position, "name": self.names[position], "offset": window.offset, "length": window.length}
-        if self.clock.origin:
-            data.update(begin=self.clock.show(window.offset), end=self.clock.show(window.end))
-        return data
+        return {"position": position, "name": self.names[position], **self.minutes(self.windows[position])}
 
     def interval(self, position: int) -> str:
         """The same in words."""
@@ -41,6 +37,18 @@ class Given(NamedTuple):
         if self.clock.origin is None:
             return f"minutes {window.offset:,} to {window.end:,}"
         return f"{self.clock.show(window.offset)} to {self.clock.show(window.end)}"
+
+    def minutes(self, window: Window) -> dict:
+        """The minutes of a window for JSON, and the dates where there is an origin."""
+        data = {"offset": window.offset, "length": window.length}
+        if self.clock.origin:
+            data.update(begin=self.clock.show(window.offset), end=self.clock.show(window.end))
+        return data
+
+    def span(self, positions: Sequence[int]) -> Window:
+        """The minutes from the first begin of some windows to their last end."""
+        begin = min(self.windows[position].offset for position in positions)
+        return Window(begin, max(self.windows[position].end for position in positions) - begin)
 
 
 def shared_minutes(one: Window, other: Window) -> tuple:

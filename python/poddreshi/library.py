@@ -51,6 +51,10 @@ class LibraryMissing(OSError):
     """The shared library is not there, or is older than the package."""
 
 
+def older() -> LibraryMissing:
+    return LibraryMissing(f"the library {places.library()} is older than this package")
+
+
 @lru_cache(maxsize=None)
 def _library() -> ctypes.CDLL:
     path = places.library()
@@ -62,7 +66,7 @@ def _library() -> ctypes.CDLL:
     except OSError:
         raise LibraryMissing(f"the library {path} cannot be loaded; {_hint()}") from None
     except AttributeError:
-        raise LibraryMissing(f"the library {path} is older than this package") from None
+        raise older() from None
     return library
 
 

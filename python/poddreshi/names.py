@@ -11,9 +11,13 @@ from .wording import cited, counted
 class Names(list):
     """A name for each position, which may be empty."""
 
+    def place(self, position: int) -> str:
+        """`3`, or with its name `3 (North pier)`."""
+        return str(position) + (f" ({self[position]})" if self[position] else "")
+
     def label(self, position: int) -> str:
         """`window 3`, or with its name `window 3 (North pier)`."""
-        return f"window {position}" + (f" ({self[position]})" if self[position] else "")
+        return f"window {self.place(position)}"
 
     def position(self, word: str) -> int:
         """The position that a word of the command means: a number, or the name of one window."""

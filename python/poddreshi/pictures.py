@@ -29,6 +29,7 @@ class Scene(NamedTuple):
     chain: Optional[Sequence[int]] = None
     span: Tuple[int, int] = (0, END_LIMIT)  # minutes to which the picture is cut
     chart: float = 1000  # width of the bars' part
+    reach: bool = False  # the ends are the farthest two windows of their component
 
 
 class Panel(NamedTuple):
@@ -56,7 +57,8 @@ def title(scene: Scene) -> str:
     between = " and ".join(scene.plan.names.label(end) for end in scene.ends)
     if scene.chain is None:
         return f"{plan}: no chain between {between}"
-    return f"{plan}: {counted(len(scene.chain) - 1, 'handover')} between {between}"
+    handovers = len(scene.chain) - 1
+    return f"{plan}: {f'reach {handovers},' if scene.reach else counted(handovers, 'handover')} between {between}"
 
 
 def description(scene: Scene) -> str:

@@ -158,14 +158,11 @@ class Commands(Case):
         lines = [line.split(b": ")[0][-6:] for line in done.stderr.splitlines()]
         self.assertEqual((done.returncode, lines), (1, [b"line 1", b"line 3", b"line 4"]))
 
-    def test_neighbours_and_reach(self):
+    def test_neighbours(self):
         self.assertEqual(self.text("neighbours", "-", 2, stdin=PLAN_12), "0 1 3 4\n")
         self.assertEqual(self.text("neighbours", self.plan, 6), "none\n")
         self.assertEqual([row["position"] for row in self.data("neighbours", self.plan, 2)["neighbours"]], [0, 1, 3, 4])
         self.assertEqual([row[0] for row in self.rows("neighbours", self.plan, 2)], ["window", "0", "1", "3", "4"])
-        self.assertEqual(self.text("reach", self.plan, 5), "at most 4 handovers between any two windows of its component\n")
-        self.assertEqual(self.data("reach", self.plan, 5), {"position": 5, "at_most": 4})
-        self.assertEqual(self.rows("reach", self.plan, 5), [["position", "at_most"], ["5", "4"]])
 
     def test_same(self):
         moved = self.file("moved.plan", plan((100, 10), (102, 3), (104, 12), (109, 2), (112, 6), (117, 1), (118, 4), number=9))
@@ -220,6 +217,8 @@ class Commands(Case):
             ("draw", self.plan, 1),
             ("draw", self.plan, "--from", 9, "--to", 3),
             ("draw", self.plan, "--from", "2026-01-01"),
+            ("draw", self.plan, 1, 5, "--reach", 1),
+            ("draw", self.plan, "--reach", "٣"),
             ("plan", 65536, "-"),
             ("plan", "x", "-"),
             ("text", self.plan, "--origin", "yesterday"),
@@ -254,6 +253,7 @@ class Commands(Case):
                 *(("count", "-", 0, "--all"), ("explain", "-"), ("plan", 7, "-", "--sort"), ("chains", self.plan, "-", "--html")),
                 *(("chain", self.plan, 0, 1, "--names", "-"), ("chain", "-", 0, 1, "--names", names), ("list", "-", "--csv")),
                 *(("tags", "-", "--short"), ("count", "-", 0, "--all", "--short"), ("explain", "-", "--short")),
+                *(("reach", "-"), ("reach", "-", 0, "--json"), ("draw", "-", "--reach", 0)),
                 *(("page", "-", "--all"), ("page", self.tags, "-", "--json"), ("page", "-", pairs, "--csv")),
             ):
                 done = self.run_front(*words, stdin=bytes(altered))

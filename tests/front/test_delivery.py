@@ -43,6 +43,7 @@ class Installed(Case):
         self.assertEqual(self.there("tags", self.plan), TAGS_12)
         self.assertEqual(self.there("tags", "--short", EXAMPLES / "even.plan"), SHORT_TAGS)
         self.assertEqual(self.there("chain", self.plan, 1, 5), b"5 4 2 1\n")
+        self.assertEqual(self.there("reach", self.plan, 1), b"3: from 0 to 5\n")
         self.assertIn(b"<svg", self.there("draw", self.plan, 1, 5))
         self.assertEqual(self.there("--version").decode(), f"poddreshi {poddreshi.__version__}\n")
         self.assertNotIn(b"install", self.there("--help"))

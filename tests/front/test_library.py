@@ -29,7 +29,7 @@ class Answers(unittest.TestCase):
         self.assertEqual(poddreshi.chain(PLAN_12, 3, 5).positions, (5, 4, 2, 3))
         self.assertEqual(poddreshi.chain(PLAN_12, 5, 6).positions, None)
         self.assertEqual(poddreshi.neighbours(PLAN_12, 2).positions, (0, 1, 3, 4))
-        self.assertEqual(poddreshi.reach(PLAN_12, 0).bound, 4)
+        self.assertEqual(poddreshi.reach(PLAN_12, 0), (3, 0, 5))
         self.assertTrue(poddreshi.same(PLAN_12, PLAN_12).same)
         self.assertFalse(poddreshi.same(PLAN_12, plan()).same)
 
@@ -50,7 +50,7 @@ class Answers(unittest.TestCase):
             (poddreshi.chain(PLAN_12, 5, 6), "no chain"),
             (poddreshi.neighbours(PLAN_12, 2), "0 1 3 4"),
             (poddreshi.neighbours(PLAN_12, 6), "none"),
-            (poddreshi.reach(PLAN_12, 6), "at most 1 handover between any two windows of its component"),
+            (poddreshi.reach(PLAN_12, 6), "0: from 6 to 6"),
             (poddreshi.pair_at(TAGS_12, 6, 6), "0 handovers"),
             (poddreshi.same(PLAN_12, PLAN_12), "same"),
             (poddreshi.read(TAGS_12[40:50]), "plan 12, component 0, depth 2, rank 2, rank of the last 1"),
@@ -173,7 +173,7 @@ class Interface(unittest.TestCase):
         before = os.getcwd()
         os.chdir(ROOT)
         self.addCleanup(os.chdir, before)
-        self.assertEqual(doctest.testmod(poddreshi), (0, 10))
+        self.assertEqual(doctest.testmod(poddreshi), (0, 11))
 
 
 if __name__ == "__main__":

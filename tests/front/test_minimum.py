@@ -173,7 +173,7 @@ class Shown(Case):
     def test_neighbours_and_reach(self):
         self.assertEqual(self.answers("neighbours", self.plan, 0), b"1\n")
         self.assertEqual(self.answers("neighbours", "-", 0, stdin=plan(*poddreshi.windows_of(BOLTING))), b"1 2\n")
-        self.assertEqual(self.answers("reach", self.plan, 0), b"at most 4 handovers between any two windows of its component\n")
+        self.assertEqual(self.answers("reach", self.plan, 0), b"3: from 0 to 3\n")
 
     def test_same(self):
         joined, apart = self.file("joined.plan", plan(*PAIR, minimum=5)), self.file("apart.plan", plan(*PAIR, minimum=6))

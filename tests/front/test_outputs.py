@@ -88,6 +88,7 @@ class OutputFile(OldFile):
         self.fails(1, "plan", 1, "-", "--minimum", 0, "-o", "old", stdin=b"5 1\n")
         self.fails(1, "plan", 1, "-", "--minimum", 2, "-o", "old", stdin=b"5 1\n")
         self.fails(1, "draw", "-", 0, 9, "-o", "old", stdin=PLAN_12)
+        self.fails(1, "draw", "-", "--reach", 7, "-o", "old", stdin=PLAN_12, about="refused by question 7: there is no window 7")
         done = self.run_front("list", "-", "-o", "old", stdin=b"\0\0\0")
         self.assertEqual((done.returncode, done.stdout, done.stderr), (1, b"refused 1 0\n", b""))
         self.unchanged()

@@ -11,6 +11,7 @@ import xml.etree.ElementTree as ET
 
 from support import EXAMPLES, PLAN_12, PYTHON, ROOT, Case, line_plan, plan, random_windows
 
+PLAN_31 = (EXAMPLES / "plan-31.plan").read_bytes()
 SVG = "{http://www.w3.org/2000/svg}"
 NUMBERS = ("x", "y", "width", "height", "x1", "y1", "x2", "y2", "cx", "cy", "r", "rx", "font-size", "stroke-width")
 
@@ -75,6 +76,35 @@ class Pictures(Case):
         self.assertEqual(self.shown(self.drawn(PLAN_12, "3", "5", "--whole")), list(range(7)))
         self.assertEqual(sheet.find(SVG + "desc").text.count("window"), 5)
 
+    def test_the_reach_of_a_component(self):
+        """It is the chain between the farthest two windows, under a title of its own."""
+        for at in (0, 3, 5):
+            sheet = self.drawn(PLAN_12, "--reach", at)
+            title = "Plan 12, minimum handover 1 minute: reach 3, between window 0 and window 5"
+            self.assertEqual(sheet.find(SVG + "title").text, title)
+            self.assertIn(title, [text.text for text in sheet.iter(SVG + "text")])
+            self.assertEqual(self.shown(sheet), [0, 1, 2, 3, 4, 5])
+            self.assertEqual([bar.get("stroke") is not None for bar in self.bars(sheet)], [True, False, True, False, True, True])
+        self.assertEqual(self.shown(self.drawn(PLAN_12, "--reach", "3", "--whole")), list(range(7)))
+        for file, at, *ends in ((PLAN_12, 1, 0, 5), (PLAN_12, 6, 6, 6), (PLAN_31, 17, 18, 22)):
+            between = f"between window {ends[0]} and window {ends[1]}"
+            drawn = self.answers("draw", "-", "--reach", at, stdin=file).decode()
+            chain = self.answers("draw", "-", *ends, stdin=file).decode()
+            self.assertEqual(re.sub(f"reach [0-9], {between}", "*", drawn), re.sub(f"([0-9]|no) handovers {between}", "*", chain))
+
+    def test_reach_by_name(self):
+        names = self.file("names", "3 Quay\n5 Lock 2\n")
+        sheet = self.drawn(PLAN_12, "--reach", "Quay", "--names", names)
+        title = "Plan 12, minimum handover 1 minute: reach 3, between window 0 and window 5 (Lock 2)"
+        self.assertEqual(sheet.find(SVG + "title").text, title)
+
+    def test_reach_that_is_no_answer(self):
+        told = "refused by question 7: there is no window 7: the plan has 7 windows, 0 to 6"
+        self.says(1, told, "draw", "-", "--reach", 7, stdin=PLAN_12)
+        self.says(2, "poddreshi: draw takes two positions or --reach, not both", "draw", "-", 1, 5, "--reach", 1, stdin=PLAN_12)
+        hint = "a position is a number from 0; names come with --names"
+        self.says(2, f'poddreshi: there is no window "x"; {hint}', "draw", "-", "--reach", "x", stdin=PLAN_12)
+
     def test_no_chain(self):
         sheet = self.drawn(PLAN_12, "5", "6")
         self.assertEqual(sheet.find(SVG + "title").text, "Plan 12, minimum handover 1 minute: no chain between window 5 and window 6")
@@ -137,7 +167,8 @@ class Pictures(Case):
             span, longest = generator.choice([5, 500, 50_000, 9_000_000]), generator.choice([2, 50, 5000])
             windows = random_windows(generator, count, span, longest)
             options = generator.choice([(), ("--origin", "2026-02-28 23:59"), ("--origin", "0001-01-01"), ("--names", names)])
-            ends = generator.choice([(), (str(generator.randrange(count)), str(generator.randrange(count)))])
+            some, other = str(generator.randrange(count)), str(generator.randrange(count))
+            ends = generator.choice([(), (some, other), ("--reach", some)])
             span = generator.choice([(), ("--from", "2"), ("--from", "1", "--to", str(windows[-1][0] + 1))])
             self.drawn(plan(*windows), *ends, *options, *span)
 

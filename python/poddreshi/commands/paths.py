@@ -1,8 +1,9 @@
 """chain, neighbours, reach, same: answers from plans."""
+import itertools
 from typing import Optional, Sequence, Tuple
 
 from .. import calls, files
-from ..commandline import NAMES, ORIGIN, PLAN, command, exit_code, forms, given, number, once, word
+from ..commandline import NAMES, ORIGIN, PLAN, command, exit_code, forms, given, once, word
 from ..figures import PLAN_LIMIT
 from ..given import Given
 from ..plans import minimum_of
@@ -11,6 +12,10 @@ from ..wording import counted, ordinal
 
 _COLUMNS = ("window", "name", "begin", "end")
 _WINDOW = "a position, or a name"
+_REACH = (  # its three numbers, and then what is told of each of the two windows
+    *("handovers", "smaller", "larger", "smaller_name", "smaller_begin", "smaller_end"),
+    *("larger_name", "larger_begin", "larger_end"),
+)
 
 
 def _windows_text(plan: Given, positions: Sequence[int], bare: str) -> str:
@@ -64,17 +69,56 @@ def _neighbours(args) -> Reply:
     return Reply(_windows_text(plan, found.positions, str(found)), _COLUMNS, rows, data)
 
 
+def _reach_row(plan: Given, found: calls.Reach) -> list:
+    return [*found, *plan.shown(found.smaller)[1:], *plan.shown(found.larger)[1:]]
+
+
+def _reach_data(plan: Given, found: calls.Reach) -> dict:
+    return {**found._asdict(), "smaller": plan.data(found.smaller), "larger": plan.data(found.larger)}
+
+
+def _reach_of_each(plan: Given) -> Reply:
+    """A line for each component. Its windows stand together, and one of them is enough to ask about all."""
+    component_of = calls.build(plan.file).component_of
+    header, lines, rows, data = ("component", "first", "last", "begin", "end", *_REACH), [], [], []
+    for component, positions in itertools.groupby(range(len(plan.windows)), key=component_of.__getitem__):
+        positions = list(positions)
+        first, last, span = positions[0], positions[-1], plan.span(positions)
+        begin, end = plan.clock.show(span.offset), plan.clock.show(span.end)
+        found = calls.reach(plan.file, first)
+        when = f" {begin} to {end} " if plan.clock.origin else ""  # the blanks set it apart, as the empty cell does
+        pair = f"from {plan.names.place(found.smaller)} to {plan.names.place(found.larger)}"
+        lines.append(("component", str(component), "", "windows", str(first), "to", str(last), when, f"{found.handovers}:", pair))
+        rows.append((component, first, last, begin, end, *_reach_row(plan, found)))
+        data.append({"component": component, "first": first, "last": last, **plan.minutes(span), **_reach_data(plan, found)})
+    return Reply(aligned(lines, right=(1, 4, 6, 8), between=" "), header, rows, data)
+
+
 @command(
     "reach",
-    "a bound on the handovers between any two windows of a window's component",
-    [PLAN, word("position", "a window's position in the plan"), forms()],
-    ["poddreshi reach examples/plan-12.plan 5"],
-    "It is a bound: no two windows are further apart, and perhaps no two are so far.",
+    "how far apart two windows of a component are at most, and which two",
+    [PLAN, word("position", f"{_WINDOW}; without it, all components", nargs="?"), NAMES, ORIGIN, forms()],
+    [
+        "poddreshi reach examples/plan-12.plan 3",
+        "poddreshi reach examples/plan-12.plan",
+        "poddreshi reach year.plan 25 --names examples/year.txt --origin 2026-01-01",
+        "poddreshi reach year.plan --names examples/year.txt --origin 2026-01-01",
+        "poddreshi reach year.plan --csv -o reach.csv",
+    ],
+    "`3: from 0 to 5` says of the component of a window that its windows 0 and 5 are 3 handovers apart and that no two are further. "
+    "Of several pairs it is the first, by the smaller position and then by the larger; a window alone is `0: from 6 to 6`. With "
+    "--names or --origin a line for each of the two windows follows: position, name, begin and end. Without a position each "
+    "component has one line: its first and its last window, with --origin its begin and end, and its reach, with the pair's names.",
 )
 def _reach(args) -> Reply:
-    at = number(args.position)
-    found = calls.reach(files.read(args.plan, PLAN_LIMIT), at)
-    return Reply(str(found), ("position", "at_most"), [(at, found.bound)], {"position": at, "at_most": found.bound})
+    plan = given(args)
+    if args.position is None:
+        return _reach_of_each(plan)
+    at = plan.names.position(args.position)
+    found = calls.reach(plan.file, at)
+    pair = sorted({found.smaller, found.larger})  # of a window alone, that window once
+    text = f"{found}\n{_windows_text(plan, pair, '')}"
+    return Reply(text, ("position", *_REACH), [(at, *_reach_row(plan, found))], {"position": at, **_reach_data(plan, found)})
 
 
 def _difference(plans: Sequence[bytes], windows: int) -> Optional[Tuple[int, int, int]]:

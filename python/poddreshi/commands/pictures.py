@@ -1,5 +1,5 @@
 """draw: a plan as a picture."""
-from typing import Tuple
+from typing import Optional, Tuple
 
 from .. import calls
 from ..commandline import NAMES, ORIGIN, OUTPUT, PLAN, command, given, option, word
@@ -22,6 +22,14 @@ def _span(args, plan: Given) -> Tuple[int, int]:
     return start, end
 
 
+def _ends(args, plan: Given) -> Optional[Tuple[int, int]]:
+    """The two windows whose chain is marked."""
+    if args.reach is not None:
+        found = calls.reach(plan.file, plan.names.position(args.reach))
+        return found.smaller, found.larger
+    return None if args.first is None else (plan.names.position(args.first), plan.names.position(args.second))
+
+
 @command(
     "draw",
     "a picture of a plan (SVG), with a chain marked where two windows are named",
@@ -31,30 +39,34 @@ def _span(args, plan: Given) -> Tuple[int, int]:
         word("second", "a position, or a name", nargs="?"),
         option("--from", dest="since", metavar="TIME", help="leave out what lies before: a minute, or a date"),
         option("--to", dest="until", metavar="TIME", help="leave out what lies after"),
+        option("--reach", metavar="POSITION", help="mark the farthest two windows of this one's component, and their chain"),
         option("--whole", action="store_true", help="show all windows, also beside a chain"),
         *(NAMES, ORIGIN, OUTPUT),
     ],
     [
         "poddreshi draw examples/plan-12.plan -o plan-12.svg",
         "poddreshi draw examples/plan-12.plan 1 5 -o chain.svg",
+        "poddreshi draw examples/plan-12.plan --reach 3 -o reach.svg",
         "poddreshi draw year.plan --origin 2026-01-01 --from 2026-02-01 --to 2026-04-01 -o spring.svg",
     ],
-    "With two windows the picture shows their components alone. Stretches with no window are cut out, with a mark.",
+    "With two windows or --reach the picture shows their components alone. Stretches with no window are cut out, with a mark.",
 )
 def _draw(args) -> Reply:
     if (args.first is None) != (args.second is None):
         raise Mistake("draw takes a plan, and two positions where a chain is to be marked")
+    if args.first is not None and args.reach is not None:
+        raise Mistake("draw takes two positions or --reach, not both")
     plan = given(args)
-    tree, ends, chain = calls.build(plan.file), None, None
+    tree, ends, chain = calls.build(plan.file), _ends(args, plan), None
     shown = list(range(len(plan.windows)))
-    if args.first is not None:
-        ends = (plan.names.position(args.first), plan.names.position(args.second))
+    if ends is not None:
         chain = calls.chain(plan.file, *ends).positions
         near = {tree.component_of[end] for end in ends}
         shown = [at for at in shown if args.whole or tree.component_of[at] in near]
     start, end = _span(args, plan)
     shown = [at for at in shown if plan.windows[at].offset < end and plan.windows[at].end > start]
-    return Reply(content=draw(Scene(plan, tree, shown, ends, chain, (start, end))).encode())
+    scene = Scene(plan, tree, shown, ends, chain, (start, end), reach=args.reach is not None)
+    return Reply(content=draw(scene).encode())
 
 
 COMMANDS = [_draw]
