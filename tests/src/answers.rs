@@ -16,7 +16,7 @@ pub enum Answer {
     Refused(Refusal),
     Accepted { plan: u16, windows: u16 },
     Built { plan: u16, windows: u16, components: u16 },
-    Reach(u16),
+    Reach { handovers: u16, smaller: u16, larger: u16 },
     Chain(u16),
     NoChain,
     Neighbours(u16),

@@ -18,7 +18,7 @@ fn unpack(answer: u64) -> Answer {
         (0, (number, input, position)) => Answer::Refused(Refusal { number, input, position }),
         (1, (plan, windows, 0)) => Answer::Accepted { plan, windows },
         (2, (plan, windows, components)) => Answer::Built { plan, windows, components },
-        (3, (handovers, 0, 0)) => Answer::Reach(handovers),
+        (3, (handovers, smaller, larger)) => Answer::Reach { handovers, smaller, larger },
         (4, (entries, 0, 0)) => Answer::Chain(entries),
         (5, (0, 0, 0)) => Answer::NoChain,
         (6, (count, 0, 0)) => Answer::Neighbours(count),

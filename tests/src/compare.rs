@@ -107,9 +107,10 @@ impl Comparison {
         }
         let tags = tree.tag_file(Form::Long);
         self.lookups(&tags);
-        let distances: Vec<Vec<Option<u16>>> = (0..n).map(|v| tree.distances(v)).collect();
+        let distances = tree.all_distances();
         let some = position_sample(n, depth, &mut self.random);
         self.from_plan(file, &tree, &some, &distances);
+        self.reaches(file, &tree, &some, &distances);
         self.named_positions(file, n);
         self.from_tags(Form::Long, file, &tree, &some, &distances);
         self.page_of_plan(&tags, &distances);
@@ -219,18 +220,13 @@ impl Comparison {
         self.calls += (some.len() * some.len()) as u64;
     }
 
-    /// Chain, neighbours and reach of some positions, chains in both orders.
+    /// Chain and neighbours of some positions, chains in both orders.
     fn from_plan(&mut self, file: &[u8], tree: &Tree, some: &[usize], distances: &[Vec<Option<u16>>]) {
         for &u in some {
             for &v in some {
                 self.chain_in(file, tree, u, v, distances);
             }
             self.neighbours_in(file, tree, u);
-            let reach = tree.reach(u);
-            assert_eq!(calls::reach(file, u), Answer::Reach(reach as u16), "reach of {u}");
-            let apart = distances[u].iter().flatten().max().unwrap();
-            assert!(*apart as usize <= reach, "{u} is {apart} handovers from some window, and its reach is {reach}");
-            self.calls += 1;
         }
     }
 

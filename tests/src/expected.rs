@@ -58,7 +58,7 @@ pub fn tags(form: Form, file: &[u8], room: usize) -> Owed<Vec<u8>> {
 pub fn reach(file: &[u8], at: usize) -> Owed<()> {
     let tree = tree_of(file, 0)?;
     is_position(at, tree.n, 0)?;
-    Ok((Answer::Reach(tree.reach(at) as u16), ()))
+    Ok((oracle::reach(at, &tree.all_distances()), ()))
 }
 
 pub fn chain(file: &[u8], first: usize, second: usize, room: usize) -> Owed<Vec<u16>> {

@@ -17,6 +17,7 @@ mod oracle;
 mod pages;
 mod paper;
 mod random;
+mod reaches;
 mod refusals;
 mod shapes;
 
@@ -24,7 +25,8 @@ use answers::{refusal, Answer};
 use compare::{Comparison, Depth};
 use forms::{Form, FORMS};
 use random::Random;
-use shapes::{evened, file_of, greatest_minimum, lengthened, nearly_even, old_file_of, patterns, plain, windows, with_minimum, SHAPES};
+use shapes::{between_others, evened, file_of, greatest_minimum, lengthened, linked, nearly_even, old_file_of, patterns, plain};
+use shapes::{windows, with_minimum, SHAPES};
 use std::sync::Mutex;
 use std::time::Instant;
 
@@ -136,6 +138,19 @@ fn every_pattern(run: &mut Run) {
         }
     }
     run.report("patterns");
+}
+
+/// Every overlap pattern in the middle of a plan: what is said of a component goes by its own windows and ends with them.
+fn every_pattern_between_others(run: &mut Run) {
+    for n in 1..=run.times(5, 6) as usize {
+        for lasts in patterns(n) {
+            run.case("a pattern between others", &mut |comparison| {
+                let plan = comparison.random.next() as u16;
+                comparison.file(&file_of(plan, 1, &between_others(&plain(&lasts))), Depth::Whole);
+            });
+        }
+    }
+    run.report("patterns between others");
 }
 
 /// Every overlap pattern by several minimums.
@@ -276,6 +291,31 @@ fn large_even_plans(run: &mut Run) {
         }
     }
     run.report("large even plans");
+}
+
+/// Plans whose chains go through many windows and begin and end among short ones, which decide the reach: small ones, all pairs, and
+/// larger ones, three of them with 2,048 windows.
+fn linked_plans(run: &mut Run) {
+    for _ in 0..run.times(1_000, 20_000) {
+        run.case("linked, small", &mut |comparison| {
+            let n = comparison.random.between(1, 32) as usize;
+            linked_plan(comparison, n, Depth::Whole);
+        });
+    }
+    for turn in 0..run.times(9, 100) {
+        run.case("linked, large", &mut |comparison| {
+            let n = many(turn.saturating_sub(2), &mut comparison.random);
+            linked_plan(comparison, n, Depth::Sampled);
+        });
+    }
+    run.report("linked plans");
+}
+
+fn linked_plan(comparison: &mut Comparison, n: usize, depth: Depth) {
+    let random = &mut comparison.random;
+    let (minimum, plan) = with_minimum(linked(n, random), random);
+    let file = file_of(random.next() as u16, minimum, &plan);
+    comparison.file(&file, depth);
 }
 
 const NUMBERS: [u32; 16] = [
@@ -428,6 +468,7 @@ fn main() {
     paper_cases(&mut run);
     every_refusal(&mut run);
     every_pattern(&mut run);
+    every_pattern_between_others(&mut run);
     every_pattern_by_minimums(&mut run);
     every_lowered_end(&mut run);
     edges_of_n(&mut run);
@@ -436,6 +477,7 @@ fn main() {
     small_even_plans(&mut run);
     large_plans(&mut run);
     large_even_plans(&mut run);
+    linked_plans(&mut run);
     damaged_files(&mut run);
     any_tags(&mut run);
     any_pages(&mut run);

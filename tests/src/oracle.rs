@@ -1,6 +1,6 @@
 //! What the papers say, by brute force: windows as sets of minutes, overlap as a count of the minutes that both sets have, least
-//! numbers of handovers by breadth-first search, post-order by recursion. Nothing here is taken from the library: where it has a
-//! formula, this has a search.
+//! numbers of handovers by breadth-first search, reach as the greatest of them all, post-order by recursion. Nothing here is taken from
+//! the library: where it has a formula, this has a search.
 use crate::answers::{refusal, Answer, Refusal};
 use crate::forms::Form;
 
@@ -254,11 +254,6 @@ impl Tree {
         Columns { tables, tags: self.tag_file(Form::Long) }
     }
 
-    pub fn reach(&self, v: usize) -> usize {
-        let last = (0..self.n).rev().find(|&w| self.component[w] == self.component[v]).unwrap();
-        self.depth[last] + 1
-    }
-
     /// Rising, without the window itself.
     pub fn neighbours(&self, v: usize) -> Vec<u16> {
         self.overlaps[v].members().iter().map(|&u| u as u16).collect()
@@ -288,6 +283,11 @@ impl Tree {
             steps += 1;
         }
         found
+    }
+
+    /// The same from every window.
+    pub fn all_distances(&self) -> Vec<Vec<Option<u16>>> {
+        (0..self.n).map(|v| self.distances(v)).collect()
     }
 
     /// At each step of a shortest chain from the later window, the earliest position at which any shortest chain stands.
@@ -320,6 +320,36 @@ impl Tree {
         }
         all
     }
+}
+
+/// The windows that a chain joins to one, itself among them.
+fn joined(at: usize, distances: &[Vec<Option<u16>>]) -> Vec<usize> {
+    (0..distances.len()).filter(|&v| distances[at][v].is_some()).collect()
+}
+
+/// Paper 02, Q-5: "the greatest number of handovers between two windows of the component", and "the first pair that has it, by smaller
+/// position and then by larger", from the search between all windows. A window and itself are among the pairs: "A component of one
+/// window has reach 0 and its window twice."
+pub fn reach(at: usize, distances: &[Vec<Option<u16>>]) -> Answer {
+    let component = joined(at, distances);
+    let later = |u: usize| component.iter().filter(move |&&v| u <= v).map(move |&v| (u, v));
+    let pairs = || component.iter().flat_map(|&u| later(u));
+    let apart = |(u, v): (usize, usize)| distances[u][v].expect("a chain between two windows of a component");
+    let handovers = pairs().map(apart).max().expect("a window");
+    let (smaller, larger) = pairs().find(|&pair| apart(pair) == handovers).expect("a pair that has it");
+    Answer::Reach { handovers, smaller: smaller as u16, larger: larger as u16 }
+}
+
+/// By position, the reach of its component, which is looked for once.
+pub fn reaches(distances: &[Vec<Option<u16>>]) -> Vec<Answer> {
+    let mut found = vec![None; distances.len()];
+    for at in 0..distances.len() {
+        if found[at].is_none() {
+            let answer = Some(reach(at, distances));
+            joined(at, distances).into_iter().for_each(|v| found[v] = answer);
+        }
+    }
+    found.into_iter().flatten().collect()
 }
 
 pub fn tag_bytes(tag: &[u16]) -> Vec<u8> {

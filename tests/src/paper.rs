@@ -1,7 +1,8 @@
 //! Every case of paper 01 by name, put to the library and to the oracle: both must have the paper's number, and leave every
 //! lent byte alike. The numbers stand as the paper prints them and none is computed; the few that it does not print follow from
 //! its words: a chain of two windows, the components of a plan of one window, plan 12 twice; and from those of paper 02: the short
-//! tags of plan 12 made even, what becomes of two and three windows as the minimum rises, and pages of plan 12.
+//! tags of plan 12 made even, what becomes of two and three windows as the minimum rises, pages of plan 12, and reaches
+//! of few windows, found by hand.
 use crate::answers::{refusal, Answer, Refusal};
 use crate::compare::Comparison;
 use crate::forms::Form;
@@ -9,6 +10,7 @@ use crate::oracle::{tag_bytes, Columns};
 use crate::pages;
 use crate::refusals::every_call_refuses;
 use crate::shapes::{file_of, old_file_of, windows_in};
+use std::ops::Range;
 use Says::*;
 
 pub const PLAN_12: [(u32, u32); 7] = [(0, 10), (2, 3), (4, 12), (9, 2), (12, 6), (17, 1), (18, 4)];
@@ -56,8 +58,9 @@ enum Says {
     /// Of two windows, the number of handovers, and the chain where the paper has it. Of 0 or 1 it is the windows themselves.
     Handovers(usize, usize, u16, Option<&'static [u16]>),
     NoChain(usize, usize),
+    /// Of each of some positions, the reach of its component and the pair that comes with it.
+    Reach(Range<usize>, u16, (u16, u16)),
     /// Of a position.
-    Reach(usize, u16),
     Rank(usize, u16),
     RankOfLast(usize, u16),
     /// The number of the question, and the position.
@@ -94,7 +97,7 @@ fn by(minimum: u32, name: &'static str, windows: &[(u32, u32)], says: Says) -> C
 
 pub fn cases() -> Vec<Case> {
     let paper_01 = [worked(), edges(), long_inputs(), traps()];
-    let paper_02 = [short_tags(), minimums(), rising_minimums(), minimums_refused(), pages_of_pairs()];
+    let paper_02 = [short_tags(), minimums(), rising_minimums(), minimums_refused(), pages_of_pairs(), reaches()];
     paper_01.into_iter().chain(paper_02).flatten().collect()
 }
 
@@ -111,8 +114,6 @@ fn worked() -> Vec<Case> {
         plan_12("P 4 to 5 is 1", Handovers(4, 5, 1, Some(&[5, 4]))),
         plan_12("P 5 to 6: no chain", NoChain(5, 6)),
         plan_12("P 6 to 6 is 0", Handovers(6, 6, 0, Some(&[6]))),
-        plan_12("reach in plan 12: 4 for position 0", Reach(0, 4)),
-        plan_12("reach in plan 12: 1 for position 6", Reach(6, 1)),
     ]
 }
 
@@ -158,10 +159,14 @@ fn long_inputs() -> Vec<Case> {
     ]
 }
 
+/// Plan 12 with its like 100 minutes later.
+fn plan_12_twice() -> Vec<(u32, u32)> {
+    [PLAN_12, PLAN_12.map(|(offset, length)| (offset + 100, length))].concat()
+}
+
 fn traps() -> Vec<Case> {
     const MOST: u32 = 4_294_967_295;
-    let later = PLAN_12.map(|(offset, length)| (offset + 100, length));
-    let twice = [PLAN_12, later].concat();
+    let twice = plan_12_twice();
     vec![
         case("\"<\" for \"≤\": windows 4 and 5 of plan 12 are 1", &PLAN_12, Handovers(4, 5, 1, Some(&[5, 4]))),
         case("touching ends as overlap: (0, 10) (10, 5) have no chain", &[(0, 10), (10, 5)], NoChain(0, 1)),
@@ -259,9 +264,16 @@ fn rising_minimums() -> Vec<Case> {
         by(5, "three windows, minimum 5: neighbours of 1", &THREE, Neighbours(1, &[0, 2])),
         by(6, "three windows, minimum 6: neighbours of 1", &THREE, Neighbours(1, &[0])),
         by(7, "three windows, minimum 7: neighbours of 1", &THREE, Neighbours(1, &[])),
-        by(5, "three windows, minimum 5: reach of 0", &THREE, Reach(0, 3)),
-        by(6, "three windows, minimum 6: reach of 0", &THREE, Reach(0, 2)),
-        by(7, "three windows, minimum 7: reach of 0", &THREE, Reach(0, 1)),
+        // Each two overlap, and 0 and 1 are the first two.
+        by(1, "three windows, minimum 1: reach 1", &THREE, Reach(0..3, 1, (0, 1))),
+        // From 0 to 2 by way of 1; all others overlap.
+        by(2, "three windows, minimum 2: reach 2", &THREE, Reach(0..3, 2, (0, 2))),
+        by(5, "three windows, minimum 5: reach 2", &THREE, Reach(0..3, 2, (0, 2))),
+        // The third stands alone, and by a minimum of 7 so does each.
+        by(6, "three windows, minimum 6: reach 1 of 0 and 1", &THREE, Reach(0..2, 1, (0, 1))),
+        by(6, "three windows, minimum 6: reach 0 of 2", &THREE, Reach(2..3, 0, (2, 2))),
+        by(7, "three windows, minimum 7: reach 0 of 0", &THREE, Reach(0..1, 0, (0, 0))),
+        by(7, "three windows, minimum 7: reach 0 of 1", &THREE, Reach(1..2, 0, (1, 1))),
         by(2, "three windows, minimums 2 and 5: the same", &THREE, Same(5, &THREE)),
         by(1, "three windows, minimums 1 and 2: not the same", &THREE, Different(2, &THREE)),
         by(5, "three windows, minimums 5 and 6: not the same", &THREE, Different(6, &THREE)),
@@ -339,6 +351,45 @@ fn pages_of_pairs() -> Vec<Case> {
     ]
 }
 
+/// Windows 0, 2 and 3 overlap each other. Window 1 overlaps 0 alone and has 2 handovers to 2 and to 3; all other pairs have 1.
+const AWAY_FROM_THE_FIRST: [(u32, u32); 4] = [(0, 10), (1, 1), (5, 10), (6, 10)];
+
+/// Three pairs have 2 handovers: 0 and 4 by way of 1, and window 2, which 0 and 1 cover, with 3 and with 4.
+const MORE_THAN_ONE_PAIR: [(u32, u32); 5] = [(0, 4), (1, 4), (2, 1), (3, 2), (4, 1)];
+
+/// Two windows that overlap; one that begins where they end and ends where the next begins; two that overlap.
+const ONE_BETWEEN: [(u32, u32); 5] = [(0, 10), (5, 10), (15, 5), (20, 10), (25, 10)];
+
+/// A window alone; the four whose pair is not with the first of them; three in line.
+const IN_THE_MIDDLE: [(u32, u32); 8] = [(0, 5), (10, 10), (11, 1), (15, 10), (16, 10), (30, 4), (32, 4), (35, 4)];
+
+/// Paper 02, Q-5.
+fn reaches() -> Vec<Case> {
+    let plan_12 = |name, says| case(name, &PLAN_12, says);
+    let twice = |name, says| case(name, &plan_12_twice(), says);
+    let in_line: Vec<(u32, u32)> = (0..2048).map(|v| (2 * v, 3)).collect();
+    vec![
+        plan_12("reach in plan 12: 3 for position 0, pair 0 and 5", Reach(0..1, 3, (0, 5))),
+        plan_12("reach in plan 12: the same for its whole component", Reach(1..6, 3, (0, 5))),
+        plan_12("reach in plan 12: 0 for position 6, its window twice", Reach(6..7, 0, (6, 6))),
+        case("the pair need not start at the first window", &AWAY_FROM_THE_FIRST, Reach(0..4, 2, (1, 2))),
+        case("of 0 and 4 and 2 and 3, 0 and 4 come first: by the smaller", &MORE_THAN_ONE_PAIR, Reach(0..5, 2, (0, 4))),
+        case("a window between others: those before", &ONE_BETWEEN, Reach(0..2, 1, (0, 1))),
+        case("a window between others: reach 0, its window twice", &ONE_BETWEEN, Reach(2..3, 0, (2, 2))),
+        case("a window between others: those behind", &ONE_BETWEEN, Reach(3..5, 1, (3, 4))),
+        case("a component in the middle: the one before", &IN_THE_MIDDLE, Reach(0..1, 0, (0, 0))),
+        case("a component in the middle: reach 2, pair 2 and 3", &IN_THE_MIDDLE, Reach(1..5, 2, (2, 3))),
+        case("a component in the middle: the one behind", &IN_THE_MIDDLE, Reach(5..8, 2, (5, 7))),
+        twice("plan 12 twice: the second component", Reach(6..7, 0, (6, 6))),
+        twice("plan 12 twice: the third, positions from the plan's start", Reach(7..13, 3, (7, 12))),
+        twice("plan 12 twice: the fourth", Reach(13..14, 0, (13, 13))),
+        case("two windows (5, 5): reach 1", &[(5, 5), (5, 5)], Reach(0..2, 1, (0, 1))),
+        case("(0, 10) (10, 5) touch: reach 0 of 0", &[(0, 10), (10, 5)], Reach(0..1, 0, (0, 0))),
+        case("(0, 10) (10, 5) touch: reach 0 of 1", &[(0, 10), (10, 5)], Reach(1..2, 0, (1, 1))),
+        case("2,048 windows in line: 2,047, the greatest reach", &in_line, Reach(1024..1025, 2047, (0, 2047))),
+    ]
+}
+
 impl Case {
     /// How the listing program's text begins, as far as the case says it.
     pub fn printed(&self) -> String {
@@ -357,7 +408,7 @@ impl Case {
             Begins(plan, windows, components) => begins(comparison, file, [plan, windows, components]),
             Handovers(u, v, count, chain) => handovers(comparison, file, (u, v), count, chain),
             NoChain(u, v) => no_chain(comparison, file, (u, v)),
-            Reach(at, count) => comparison.reach(file, at).are(format_args!("reach"), Answer::Reach(count), &()),
+            Reach(ref positions, handovers, pair) => reach(comparison, file, positions.clone(), handovers, pair),
             Rank(at, rank) => assert_eq!(columns(comparison, file).tables[3][at], rank, "rank"),
             RankOfLast(at, rank) => assert_eq!(columns(comparison, file).tables[4][at], rank, "rank of the last"),
             Refused(number, position) => every_call_refuses(comparison, file, number, position),
@@ -495,6 +546,12 @@ fn neighbours(comparison: &mut Comparison, file: &[u8], at: usize, near: &[u16])
     for more in MORE {
         let both = comparison.neighbours(file, at, near.len() + more);
         both.are(format_args!("neighbours of {at}"), Answer::Neighbours(near.len() as u16), &near.to_vec());
+    }
+}
+
+fn reach(comparison: &mut Comparison, file: &[u8], positions: Range<usize>, handovers: u16, (smaller, larger): (u16, u16)) {
+    for at in positions {
+        comparison.reach(file, at).are(format_args!("reach of {at}"), Answer::Reach { handovers, smaller, larger }, &());
     }
 }
 

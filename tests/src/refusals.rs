@@ -30,7 +30,8 @@ const MINIMUMS: [u32; 6] = [1, 2, 255, 256, 65_536, 86_400];
 const NO_MINIMUMS: [u32; 9] = [0, 86_401, 65_536 * 2, 65_536 * 255, 1 << 24, (1 << 24) + 1, 1 << 31, 0xffff_0001, 4_294_967_295];
 
 /// Questions 1, 2, 14 and 3, each of files that later ones would refuse too: files of less than 8 bytes whatever they hold; n too
-/// great by any minimum in a file of any length; no minimum in a file of any length; windows of length 0 in one of the wrong length.
+/// great by any minimum in a file of any length, and in one whose last window is refused by 4, 5 or 6; no minimum in a file of any
+/// length; windows of length 0 in one of the wrong length.
 fn faulty_headers() -> Vec<Faulty> {
     let mut all = Vec::new();
     for (n, minimum) in [(0, 0), (0, 1), (1, 86_400), (2048, 86_401), (2049, 1), (2049, 0), (65_535, 4_294_967_295)] {
@@ -39,6 +40,10 @@ fn faulty_headers() -> Vec<Faulty> {
     for (n, bytes) in [(2049, 0), (2049, 1), (2049, 8 * 2049), (2049, 8 * 2049 + 1), (65_535, 3)] {
         let minimums = [1, 86_400].into_iter().chain(NO_MINIMUMS);
         all.extend(minimums.map(|minimum| faulty(2, 0, &headed(n, minimum, bytes))));
+    }
+    for last in [(5, 0), (10_000_000, 1), (4, 1)] {
+        let windows = [vec![(5, 1); 2048], vec![last]].concat();
+        all.push(faulty(2, 0, &file_of(12, 1, &windows)));
     }
     let wrong = [(0, 1), (0, 8), (1, 0), (1, 4), (1, 7), (1, 9), (2, 8), (2, 24), (2048, 8 * 2048 - 1), (2048, 8 * 2048 + 1)];
     for (n, bytes) in wrong.into_iter().chain([(0, 0), (1, 8), (2, 16), (2048, 8 * 2048)]) {

@@ -42,6 +42,18 @@ pub fn plain(lasts: &[usize]) -> Vec<(u32, u32)> {
     lasts.iter().enumerate().map(|(u, &last)| (u as u32, (last - u + 1) as u32)).collect()
 }
 
+/// The windows in the middle of a plan, behind three in line and one alone and before one alone and four in line. Each of these parts
+/// begins at the minute at which the one before it ends.
+pub fn between_others(windows: &[(u32, u32)]) -> Vec<(u32, u32)> {
+    let in_line = |n: u32| (0..n).map(|v| (2 * v, 3)).collect::<Vec<_>>();
+    let mut plan = Vec::new();
+    for part in [&in_line(3), &in_line(1), windows, &in_line(1), &in_line(4)] {
+        let start = plan.iter().map(|w: &(u32, u32)| w.0 + w.1).max().unwrap_or(0);
+        plan.extend(part.iter().map(|w| (start + w.0, w.1)));
+    }
+    plan
+}
+
 /// A list of lasts as a plan of any minimum, of which the offsets rise: a window shares the minimum or more with its last, and with
 /// the one behind that a minute less or nothing. `length` chooses from the shortest to the longest length for which that is so.
 pub fn realised(lasts: &[usize], minimum: u32, offsets: &[u32], length: &mut dyn FnMut(u32, u32) -> u32) -> Vec<(u32, u32)> {
@@ -128,7 +140,7 @@ pub const SHAPES: [Shape; 8] = [
 ];
 
 pub fn windows(shape: Shape, n: usize, random: &mut Random) -> Vec<(u32, u32)> {
-    let mut windows = match shape {
+    in_order(match shape {
         Shape::Sparse => scattered(n, 12 * n as u64 + 1, 10, random),
         Shape::Dense => scattered(n, n as u64 + 1, n as u64 + 1, random),
         Shape::Nested => nested(n, random),
@@ -137,10 +149,30 @@ pub fn windows(shape: Shape, n: usize, random: &mut Random) -> Vec<(u32, u32)> {
         Shape::Touching => touching(n, random),
         Shape::Mixed => mixed(n, random),
         Shape::Far => far(n, random),
-    };
-    // Equal offsets keep the order in which they were drawn.
+    })
+}
+
+/// Sorted by offset. Equal offsets keep the order in which they were drawn.
+fn in_order(mut windows: Vec<(u64, u64)>) -> Vec<(u32, u32)> {
     windows.sort_by_key(|w| w.0);
     windows.into_iter().map(|(offset, length)| (offset as u32, length as u32)).collect()
+}
+
+/// Windows in line, each over a minute or two of the next, with short ones in them. Here and there two of the line only touch, in most
+/// plans seldom and in some never.
+pub fn linked(n: usize, random: &mut Random) -> Vec<(u32, u32)> {
+    let seldom = random.pick(&[8, 60, u64::MAX]);
+    let (mut start, mut windows) = (0, Vec::new());
+    while windows.len() < n {
+        let length = random.between(4, 12);
+        windows.push((start, length));
+        for _ in 0..random.below(3) {
+            windows.push((start + random.below(length), random.between(1, 3)));
+        }
+        start += length - if random.below(seldom) == 0 { 0 } else { random.between(1, 2) };
+    }
+    windows.truncate(n);
+    in_order(windows)
 }
 
 fn scattered(n: usize, span: u64, longest: u64, random: &mut Random) -> Vec<(u64, u64)> {
