@@ -104,7 +104,7 @@ class Library:
         return self.count("neighbours", file, WORD(at), out)
 
     def reach(self, file, at):
-        return self.count("reach", file, WORD(at))
+        return tuple(self.ask("reach", file, WORD(at))[1])
 
     def same(self, first, second):
         return self.ask("same", first, second)[0] == SAME

@@ -302,15 +302,20 @@ class Reader:
     def short_part(self, tags, at):
         return bytes(tags[8 * at : 8 * at + 8])
 
-    # Chains.
+    # Chains and reach.
 
-    def handovers_to(self, plan, target):
+    def beside(self, plan):
+        """For each window those that overlap it."""
+        windows = range(len(plan.offsets))
+        return [[v for v in windows if self.overlapping(plan, u, v)] for u in windows]
+
+    def handovers_to(self, beside, target):
         """For each window the least number of handovers to the target, or None."""
-        away = [None] * len(plan.offsets)
+        away = [None] * len(beside)
         away[target], reached = 0, [target]
         for u in reached:
-            for v in range(len(away)):
-                if away[v] is None and self.overlapping(plan, u, v):
+            for v in beside[u]:
+                if away[v] is None:
                     away[v] = away[u] + 1
                     reached.append(v)
         return away
@@ -320,13 +325,30 @@ class Reader:
         return [v for v in range(len(away)) if away[v] == away[u] - 1 and self.overlapping(plan, u, v)]
 
     def shortest(self, plan, earlier, later):
-        away = self.handovers_to(plan, earlier)
+        away = self.handovers_to(self.beside(plan), earlier)
         if away[later] is None:
             return None
         chain = [later]
         while chain[-1] != earlier:
             chain.append(min(self.nearer(plan, away, chain[-1])))
         return chain
+
+    def members(self, beside, at):
+        """The windows of the component: those that a chain joins to the window."""
+        return [v for v, away in enumerate(self.handovers_to(beside, at)) if away is not None]
+
+    def counts(self, beside, members):
+        """The handovers between every two windows of a component, and these, by smaller position and then by larger."""
+        for u in members:
+            away = self.handovers_to(beside, u)
+            yield from ((away[v], u, v) for v in members if u <= v)
+
+    def greatest(self, counts):
+        return max(counts, key=lambda found: found[0])  # The first of those that have it.
+
+    def farthest(self, plan, at):
+        beside = self.beside(plan)
+        return self.greatest(self.counts(beside, self.members(beside, at)))
 
     # The calls.
 
@@ -420,9 +442,7 @@ class Reader:
     def reach(self, file, at):
         plan = self.read_plan(file)
         self.ask(self.question_7(at, len(plan.offsets)), 7)
-        tree = self.tree(plan)
-        same = [v for v, component in enumerate(tree.components) if component == tree.components[at]]
-        return tree.depths[same[-1]] + 1
+        return self.farthest(plan, at)
 
     def same(self, first, second):
         first, second = self.read_plan(first, 0), self.read_plan(second, 1)

@@ -17,7 +17,7 @@ from library import Library
 from reader import Reader, Refused
 from vectors import CALLS, DOCS, FOLDER, Malformed, all_vectors, bytes_of_rows, parse_file, parse_vector, passes, said
 from vectors import without_comment, words_of
-from wrong_minimum_readers import WRONG
+from wrong_reach_readers import WRONG
 
 VECTORS = sorted(all_vectors(), key=lambda one: 10**9 if one.where.startswith("long.txt") else len(one.text))  # The quick first.
 DOCUMENT = (DOCS / "FORMAT.md").read_text(encoding="utf-8")
@@ -31,7 +31,8 @@ SLIPS = (
     "pair 00 00 : same",
     "pair 00 00 : no_chain : no_chain",
     "pear 00 00 : no_chain",
-    "reach 00 01 : reach 1",
+    "reach 00 01 : reach 1 0 1",
+    "reach 00 1 : reach 1",
     "chain 00 0 0 1 : chain 1,,2",
     "lookup 00*2 0 : found 00",
 )

@@ -24,7 +24,7 @@ CALLS = {
     "pair_at": ("bytes number number", PAIR),
     "chain": ("bytes number number entries", {"chain": "list", "no_chain": ""}),
     "neighbours": ("bytes number entries", {"neighbours": "list"}),
-    "reach": ("bytes number", {"reach": "number"}),
+    "reach": ("bytes number", {"reach": "number number number"}),
     "same": ("bytes bytes", {"same": "", "different": ""}),
     "short_tags": ("bytes octets", {"built": "number number number bytes"}),
     "short_read": ("bytes", {"tag": "number number number number"}),
@@ -199,13 +199,15 @@ def answer_of(call, result, lent):
         return (name, lent[0][:result]), [result]
     if call == "read":
         return ("tag", *result), []
+    if call == "reach":
+        return ("reach", *result), []
     if call == "write":
         return ("written", lent[0][:tag_length]), [tag_length]
     if call == "same":
         return ("same" if result else "different",), []
     if result is None:
         return ("no_chain",), [0] * len(lent)
-    return ({"lookup": "found", "reach": "reach"}.get(call, "handovers"), result), []
+    return ("found" if call == "lookup" else "handovers", result), []
 
 
 def said(reader, vector):

@@ -3,9 +3,8 @@ trusts a habit. Each has a name, the mistake in words, and methods in the place 
 of docs/vectors/.
 
 Mistakes that no vector can show, since the answer is the same for every input, are not here: "no chain" said before 12 is asked
-(12 is about tags of one component), equal tags answered before 11 and 12 (they pass both), the greatest depth of a component in
-the place of its last window's (they are equal), the earliest window taken at each step from the earlier end of a shortest chain
-(one chain has the earliest at all steps).
+(12 is about tags of one component), equal tags answered before 11 and 12 (they pass both), the earliest window taken at each step
+from the earlier end of a shortest chain (one chain has the earliest at all steps).
 """
 from reader import Reader, Refused, Tag
 
@@ -627,20 +626,13 @@ class SevenBeforeThePlan(Reader):
         return super().chain(file, first, second, out)
 
 
-# Neighbours, reach and sameness.
+# Neighbours and sameness.
 
 wrong("WithItself", "a window among its own neighbours",
       overlapping=lambda self, plan, u, v: u == v or Reader.overlapping(self, plan, u, v))
 wrong("ParentToLast", "all windows from the parent to the last taken as neighbours",
       overlapping=lambda self, plan, u, v: u != v and self.parent(plan, u) <= v <= self.last(plan, u))
 wrong("LaterOnly", "neighbours behind the window only", overlapping=lambda self, plan, u, v: u < v and self.overlap(plan, u, v))
-wrong("ReachWithoutOne", "reach without plus 1", reach=lambda self, file, at: Reader.reach(self, file, at) - 1)
-wrong("ReachOfTheLastWindow", "reach from the last window of the plan, whatever the component",
-      reach=lambda self, file, at: Reader.reach(self, file, at) and Reader.reach(self, file, self.validate(file)[1] - 1))
-wrong("ReachOfThePosition", "reach from the depth of the position itself",
-      reach=lambda self, file, at: Reader.reach(self, file, at) and self.tree(self.read_plan(file)).depths[at] + 1)
-wrong("ReachOfThePlan", "reach from the greatest depth of the whole plan",
-      reach=lambda self, file, at: Reader.reach(self, file, at) and max(self.tree(self.read_plan(file)).depths) + 1)
 
 
 @mistaken("neighbours in falling order")
@@ -649,15 +641,6 @@ class FallingNeighbours(Reader):
         count = super().neighbours(file, at, out)
         out[:count] = out[:count][::-1]
         return count
-
-
-@mistaken("reach as the greatest number of handovers itself, where it is a bound")
-class ReachExactly(Reader):
-    def reach(self, file, at):
-        super().reach(file, at)
-        plan = self.read_plan(file)
-        members = [v for v, away in enumerate(self.handovers_to(plan, at)) if away is not None]
-        return max(away for v in members for away in self.handovers_to(plan, v) if away is not None)
 
 
 def comparing(name, mistake, same):
