@@ -412,3 +412,86 @@ pub fn hand_neighbours(file: &[u8], at: usize, out: &mut [u16]) -> Result<u16, R
     }
     Ok(count as u16)
 }
+
+/// The window below the root on the way up to it; of a root, the root.
+fn top_of(parents: &[u16], from: usize) -> usize {
+    let mut at = from;
+    loop {
+        let parent = parents[at];
+        if parents[parent as usize] == parent {
+            return at;
+        }
+        at = parent as usize;
+    }
+}
+
+struct Levels {
+    /// How many levels lie behind the first.
+    steps: u16,
+    /// The first window of the last level.
+    first: usize,
+    /// The last window of the component.
+    last: usize,
+}
+
+/// The levels from a window on: the next begins at the first window whose parent does not stand before this one.
+fn levels_from(parents: &[u16], from: usize) -> Levels {
+    let mut levels = Levels { steps: 0, first: from, last: from };
+    for (v, &parent) in parents.iter().enumerate().skip(from + 1) {
+        let parent = parent as usize;
+        if parent == v {
+            break;
+        }
+        if levels.first <= parent {
+            levels.first = v;
+            levels.steps += 1;
+        }
+        levels.last = v;
+    }
+    levels
+}
+
+fn end_of(pair: &[u8; 8]) -> u32 {
+    let (offset, length) = window(pair);
+    offset + length
+}
+
+/// Over the bytes of the file, since spans take longer to fill than they save here. An end is formed when the parent moves on to it.
+fn find_parents_of(minimum: u32, windows: &[[u8; 8]], parents: &mut [u16]) {
+    let Some(first) = windows.first() else { return };
+    let (mut parent, mut end) = (0, end_of(first));
+    for (v, (pair, entry)) in windows.iter().zip(parents).enumerate() {
+        let needed = window(pair).0 + minimum;
+        while parent < v && end < needed {
+            parent += 1;
+            end = end_of(&windows[parent]);
+        }
+        *entry = parent as u16;
+    }
+}
+
+/// Handovers, the smaller position and the larger.
+#[no_mangle]
+#[inline(never)]
+pub fn hand_reach(file: &[u8], at: usize) -> Result<(u16, u16, u16), Refusal> {
+    let Plan { minimum, pairs, .. } = validate(file)?;
+    let (windows, _) = pairs.as_chunks::<8>();
+    if at >= windows.len() {
+        return no(7, 0, 0);
+    }
+    let mut parents = [0; MOST];
+    let parents = &mut parents[..windows.len()];
+    find_parents_of(minimum, windows, parents);
+    let root = parents[top_of(parents, at)] as usize;
+    let Levels { steps, first, last } = levels_from(parents, root);
+    let top = top_of(parents, last);
+    let needed = window(&windows[top]).0 + minimum;
+    let Some(before) = windows[root..top].iter().position(|pair| end_of(pair) < needed) else {
+        return Ok((steps, root as u16, first as u16));
+    };
+    // A window that does not overlap the top is a step farther from the last than the root is.
+    let smaller = root + before;
+    let latest = end_of(&windows[smaller]) - minimum;
+    let apart = smaller + windows[smaller..].partition_point(|pair| window(pair).0 <= latest);
+    Ok((steps + 1, smaller as u16, levels_from(parents, apart).first as u16))
+}

@@ -6,6 +6,7 @@
 mod hand;
 mod page;
 mod plans;
+mod reach;
 mod search;
 mod short;
 mod time;
@@ -201,6 +202,8 @@ fn count(words: &[String]) {
         ("short_tags", _) => keep(hand::hand_short_tags(file, &mut lent.tags)),
         ("short_pair", "ours") => keep(short::pair(short::tag(&tags, u), short::tag(&tags, v))),
         ("short_pair", _) => keep(hand::hand_short_pair(short::tag(&tags, u), short::tag(&tags, v))),
+        ("reach", "ours") => keep(reach::reach(file, u)),
+        ("reach", _) => keep(hand::hand_reach(file, u)),
         ("chain", "ours") => keep(chain(file, u, v, &mut lent.out)),
         ("chain", _) => keep(hand::hand_chain(file, u, v, &mut lent.out)),
         ("neighbours", "ours") => keep(neighbours(file, u, &mut lent.out)),
@@ -227,4 +230,5 @@ fn main() {
     println!("Boost Graph's search over a pair call at 2,048 windows (0: not there): {}.", library.join(", "));
     short::table();
     page::table();
+    reach::table();
 }

@@ -104,8 +104,13 @@ fn file_of(minimum: u32, windows: &[(u32, u32)]) -> Vec<u8> {
 
 impl Case {
     pub fn new(shape: Shape, n: usize) -> Case {
+        Case::of_plans(shape, n, PLANS)
+    }
+
+    /// With so many plans.
+    pub fn of_plans(shape: Shape, n: usize, count: usize) -> Case {
         let mut random = Random(0x9e37_79b9_7f4a_7c15 ^ n as u64);
-        let plans: Vec<Vec<(u32, u32)>> = (0..PLANS).map(|_| windows_of(shape, n, &mut random)).collect();
+        let plans: Vec<Vec<(u32, u32)>> = (0..count).map(|_| windows_of(shape, n, &mut random)).collect();
         let mut position = || random.below(n as u32) as usize;
         let queries = (0..1024).map(|_| (position(), position())).collect();
         let page = (0..RECORDS).map(|_| Query { first: position(), second: position(), answer: 0 }).collect();

@@ -1,4 +1,5 @@
-//! Breadth-first search for each query, on adjacency lists that stand ready: by hand, and by the graph library.
+//! Breadth-first search, on adjacency lists that stand ready, for one pair or for the farthest from a window: by hand, and by the graph
+//! library.
 
 pub struct Graph {
     pub starts: Vec<u32>,
@@ -58,6 +59,25 @@ pub fn distance(graph: &Graph, from: usize, to: usize, scratch: &mut Scratch) ->
     None
 }
 
+/// The greatest number of handovers from a window, and the first window that has it.
+pub fn farthest(graph: &Graph, from: usize, scratch: &mut Scratch) -> (u16, usize) {
+    const NO_WINDOW: usize = usize::MAX;
+    distance(graph, from, NO_WINDOW, scratch);
+    let Scratch { distances, queue } = scratch;
+    // They are found by rising distance.
+    let greatest = distances[queue[queue.len() - 1] as usize];
+    let first = queue.iter().rev().take_while(|&&v| distances[v as usize] == greatest).min();
+    (greatest, first.map_or(from, |&v| v as usize))
+}
+
+/// The windows of a window's component, rising.
+pub fn component(graph: &Graph, from: usize, scratch: &mut Scratch) -> Vec<usize> {
+    farthest(graph, from, scratch);
+    let mut members: Vec<usize> = scratch.queue.iter().map(|&v| v as usize).collect();
+    members.sort();
+    members
+}
+
 #[cfg(library)]
 mod boost {
     use super::Graph;
@@ -66,6 +86,7 @@ mod boost {
     extern "C" {
         fn library_graph(n: usize, starts: *const u32, targets: *const u32) -> *mut c_void;
         fn library_distance(graph: *mut c_void, from: usize, to: usize) -> i32;
+        fn library_farthest(graph: *mut c_void, from: usize, first: *mut usize) -> i32;
         fn library_free(graph: *mut c_void);
     }
 
@@ -78,6 +99,11 @@ mod boost {
         }
         pub fn distance(&self, from: usize, to: usize) -> Option<u16> {
             u16::try_from(unsafe { library_distance(self.0, from, to) }).ok()
+        }
+        pub fn farthest(&self, from: usize) -> (u16, usize) {
+            let mut first = 0;
+            let greatest = unsafe { library_farthest(self.0, from, &mut first) };
+            (greatest as u16, first)
         }
     }
 
@@ -100,6 +126,9 @@ mod boost {
         }
         pub fn distance(&self, _: usize, _: usize) -> Option<u16> {
             None
+        }
+        pub fn farthest(&self, from: usize) -> (u16, usize) {
+            (0, from)
         }
     }
 }

@@ -1,4 +1,5 @@
 //! Medians of repeated runs, in the processor time of the thread, so that other work on the machine counts little.
+use std::hint::black_box;
 
 const ROUNDS: usize = 101;
 /// A round is repeated until it is far longer than the clock's grain.
@@ -58,11 +59,27 @@ pub fn median(run: &mut dyn FnMut()) -> f64 {
     middle((0..rounds).map(|_| once(run, repeats)).collect())
 }
 
+/// Nanoseconds of one that may take seconds, and its answer: the median of three rounds, or one round where it takes more than a second.
+pub fn few_rounds<T>(mut run: impl FnMut() -> T) -> (f64, T) {
+    let start = now();
+    let answer = run();
+    let first = now() - start;
+    if first > 1e9 {
+        return (first, answer);
+    }
+    let mut again = || {
+        black_box(run());
+    };
+    let repeats = (ROUND_NANOSECONDS / first).clamp(1.0, 1e6) as u32;
+    (middle((0..3).map(|_| once(&mut again, repeats)).collect()), answer)
+}
+
 /// A time with its unit.
 pub fn times(nanoseconds: f64) -> String {
     match nanoseconds {
         t if t < 1e3 => format!("{t:.1} ns"),
         t if t < 1e6 => format!("{:.2} µs", t / 1e3),
-        t => format!("{:.2} ms", t / 1e6),
+        t if t < 1e9 => format!("{:.2} ms", t / 1e6),
+        t => format!("{:.2} s", t / 1e9),
     }
 }
