@@ -22,8 +22,8 @@ fn positions(case: &Case) -> impl Iterator<Item = usize> + '_ {
     case.queries[..FEW].iter().map(|&(at, _)| at)
 }
 
-/// In all plans of a case. A processor learns the branches of fewer windows that come again and again, more or fewer of them by where the
-/// code lies, and then two that do the same differ by half.
+/// In all plans of a case. Over fewer windows that come again and again the ratio of equal instructions differed by half from one build of
+/// this program to another, perhaps since a processor learns their branches (docs/DECISIONS.md).
 const WINDOWS: usize = 1 << 17;
 
 /// Each plan with a position.
