@@ -2,7 +2,6 @@
 use crate::lines::next_word;
 use crate::lines::number_at;
 use plan::GREATEST_COUNT;
-use plan::MINIMUM_PLACE;
 use plan::Window;
 
 // The window whose offset stands at a place, and its length behind it.
@@ -31,9 +30,7 @@ pub(crate) fn put_plan(
     text: &[u8],
     from: usize,
 ) {
-    wire::write_u16(file, 0, 12);
-    wire::write_u16(file, 2, windows);
-    wire::write_u32(file, MINIMUM_PLACE, minimum);
+    plan::write_header(12, windows, minimum, file);
     let mut at = from;
     let mut position = 0;
     while position < GREATEST_COUNT {

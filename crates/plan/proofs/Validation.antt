@@ -2,20 +2,20 @@
 -- Vocabulary: window-at, ask-*, refused-*, windows-answer, Passed, passed-*.
 -- Assumes nothing.
 use Prim.Native.Nat.{ℕ, _+_, _-_, _≤_, _<_}
-use mathlib.Core.{Bool.true, Bool.false, Path._≡_, Path.refl, Path.ap, List.List}
+use mathlib.Core.{Bool.true, Bool.false, Path._≡_, Path.refl, Path.sym, Path.ap, Path._∙_, List.List, List.[], List._∷_}
 use native.Mathlib.{Nat.add-sub-cancel-left, Numerals.add-one}
-use lib.ListN.{length, take, drop}
+use lib.{ListN.length, ListN.take, ListN.drop, Dec.leb}
 use borrow.Author.Tests.{le-leb, lt-leb, eq-eqb, ne-eqb}
-use Rattle.refusals.specs.declared.Refusal.{Refusal}
+use Rattle.refusals.specs.declared.{Refusal.Refusal, Asked.Asked}
 use Rattle.refusals.specs.declared.Asked.the-variants as asked
 use Rattle.refusals.specs.Question.{Question, refusalBy, refusalAbout, question, each, firstNo, askedOf}
-use Rattle.refusals.proofs.Question.{Asking, asking-start, asking-turn, asking-refused, asking-end}
+use Rattle.refusals.proofs.Question.{first-yes, first-no, asked-refused, asked-passed, Asking, asking-start, asking-turn, asking-refused, asking-end}
 use Rattle.plan.specs.declared.windows.Window.{Window}
 use Rattle.plan.specs.declared.questions.Validation.{Validation, the-variants.Accepted, the-variants.Refused}
 use Rattle.plan.specs.File.{headerLength, windowLength, fileLength, windowPlace, planNumber, windowCount, minimumHandover}
 use Rattle.plan.specs.File.{windowOf, windowAt, endOf}
-use Rattle.plan.specs.Validation.{greatestCount, greatestEnd, minimumPasses, offsetBefore, windowQuestions, fileQuestions}
-use Rattle.plan.specs.Validation.{planQuestions, validateAnswerOf}
+use Rattle.plan.specs.Validation.{greatestCount, greatestEnd, minimumPasses, offsetBefore, ownQuestions, windowQuestions}
+use Rattle.plan.specs.Validation.{fileQuestions, planQuestions, validateAnswerOf}
 
 -- The window in the eight-byte part from the middle of the file is the window at its position.
 pub window-at : (file : List ℕ) (v place : ℕ) (w : Window) → place ≡ windowPlace v →
@@ -23,24 +23,39 @@ pub window-at : (file : List ℕ) (v place : ℕ) (w : Window) → place ≡ win
 unfolding windowAt
 window-at file v place w here e = rw (here, add-sub-cancel-left (windowPlace v) windowLength) at e
 
--- Which of a window's three questions is the first "no".
-module _ (minimum before : ℕ) (w : Window) where
-  pub ask-4 : w .length < minimum → asked.Refused (refusalBy 4) ≡ askedOf (windowQuestions minimum before w)
-  unfolding askedOf windowQuestions firstNo question
+-- Which of a window's own two questions is the first "no".
+module _ (minimum : ℕ) (w : Window) where
+  pub ask-4 : w .length < minimum → asked.Refused (refusalBy 4) ≡ askedOf (ownQuestions minimum w)
+  unfolding askedOf firstNo question
   ask-4 short = rw (lt-leb minimum (w .length) short)
 
-  pub ask-5 : minimum ≤ w .length → greatestEnd < endOf w → asked.Refused (refusalBy 5) ≡ askedOf (windowQuestions minimum before w)
-  unfolding askedOf windowQuestions firstNo question
+  pub ask-5 : minimum ≤ w .length → greatestEnd < endOf w → asked.Refused (refusalBy 5) ≡ askedOf (ownQuestions minimum w)
+  unfolding askedOf firstNo question
   ask-5 long late = rw (le-leb minimum (w .length) long, lt-leb (endOf w) greatestEnd late)
 
-  module _ (long : minimum ≤ w .length) (early : endOf w ≤ greatestEnd) where
-    pub ask-6 : w .offset < before → asked.Refused (refusalBy 6) ≡ askedOf (windowQuestions minimum before w)
-    unfolding askedOf windowQuestions firstNo question
-    ask-6 falls = rw (le-leb minimum (w .length) long, le-leb (endOf w) greatestEnd early, lt-leb before (w .offset) falls)
+  pub ask-neither : minimum ≤ w .length → endOf w ≤ greatestEnd → asked.Passed ≡ askedOf (ownQuestions minimum w)
+  unfolding askedOf firstNo question
+  ask-neither long early = rw (le-leb minimum (w .length) long, le-leb (endOf w) greatestEnd early)
 
-    pub ask-none : before ≤ w .offset → asked.Passed ≡ askedOf (windowQuestions minimum before w)
-    unfolding askedOf windowQuestions firstNo question
-    ask-none sorted = rw (le-leb minimum (w .length) long, le-leb (endOf w) greatestEnd early, le-leb before (w .offset) sorted)
+-- And of all three, by what was answered to these two.
+module _ (minimum before : ℕ) (w : Window) (own : Asked) (answered : own ≡ askedOf (ownQuestions minimum w)) where
+  pub ask-own-no : (r : Refusal) → own ≡ asked.Refused r → asked.Refused r ≡ askedOf (windowQuestions minimum before w)
+  unfolding askedOf windowQuestions
+  ask-own-no r e = asked-refused (ownQuestions minimum w) _ asked.Refused asked.Passed own answered r e
+
+  pub ask-6 : own ≡ asked.Passed → w .offset < before → asked.Refused (refusalBy 6) ≡ askedOf (windowQuestions minimum before w)
+  unfolding askedOf windowQuestions question
+  ask-6 e falls =
+      let q = question 6 (leb before (w .offset)) in
+      sym (first-no [] asked.Refused asked.Passed q (lt-leb before (w .offset) falls))
+      ∙ asked-passed (ownQuestions minimum w) (q ∷ []) asked.Refused asked.Passed own answered e
+
+  pub ask-none : own ≡ asked.Passed → before ≤ w .offset → asked.Passed ≡ askedOf (windowQuestions minimum before w)
+  unfolding askedOf windowQuestions question firstNo
+  ask-none e sorted =
+      let q = question 6 (leb before (w .offset)) in
+      sym (first-yes [] asked.Refused asked.Passed q (le-leb before (w .offset) sorted))
+      ∙ asked-passed (ownQuestions minimum w) (q ∷ []) asked.Refused asked.Passed own answered e
 
 -- The questions of each window of a file that are asked with a minimum.
 abbrev pub askedWith : (minimum : ℕ) → List ℕ → ℕ → List Question

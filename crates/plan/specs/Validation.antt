@@ -1,7 +1,7 @@
 -- Paper 01, "Questions at the door", 1 to 6, and "Plan file": "A plan is accepted when its file meets no refusal in
 -- questions 1 to 6"; with 14 among them, of paper 02, Q-2. Where these crates say "questions 1 to 6" of a plan, 14 is meant too.
--- Vocabulary: greatestCount, greatestMinimum, greatestEnd, minimumPasses, offsetBefore, windowQuestions, fileQuestions, planQuestions,
--- AcceptedPlan, validateAnswerOf.
+-- Vocabulary: greatestCount, greatestMinimum, greatestEnd, minimumPasses, offsetBefore, ownQuestions, windowQuestions, fileQuestions,
+-- planQuestions, AcceptedPlan, validateAnswerOf.
 use Prim.Native.Nat.{ℕ, zero, suc}
 use mathlib.Core.Bool.{Bool, true, _&&_}
 use mathlib.Core.Path.{_≡_}
@@ -32,13 +32,15 @@ unfoldable pub offsetBefore : List ℕ → ℕ → ℕ
 offsetBefore file zero = 0
 offsetBefore file (suc v) = windowAt file v .offset
 
--- Of a window of a plan with this minimum, where the window before it has the offset before:
+-- Of a window of a plan with this minimum, by itself:
 -- "Every window is at least that long; check 4 now says this" (paper 02, Q-2).
--- "5. Is the true sum offset + length at most 10,000,000?
---  6. Is the offset at least that of the window before?"
+-- "5. Is the true sum offset + length at most 10,000,000?"
+abbrev pub ownQuestions : (minimum : ℕ) → Window → List Question
+ownQuestions minimum w = question 4 (leb minimum (w .length)) ∷ question 5 (leb (endOf w) greatestEnd) ∷ []
+
+-- And where the window before it has the offset before: "6. Is the offset at least that of the window before?"
 unfoldable pub windowQuestions : (minimum before : ℕ) → Window → List Question
-windowQuestions minimum before w =
-    question 4 (leb minimum (w .length)) ∷ question 5 (leb (endOf w) greatestEnd) ∷ question 6 (leb before (w .offset)) ∷ []
+windowQuestions minimum before w = ownQuestions minimum w ++ (question 6 (leb before (w .offset)) ∷ [])
 
 module _ (file : List ℕ) where
   -- "1. Has the file at least" 8 "bytes?

@@ -1,4 +1,4 @@
-// The plan file: its minimum handover, its windows read and written, and whether it is accepted.
+// The plan file: its header and its windows, read and written, and whether it is accepted.
 mod figures;
 mod header;
 mod questions;
@@ -7,10 +7,11 @@ mod windows;
 pub use figures::GREATEST_COUNT;
 pub use figures::GREATEST_END;
 pub use figures::HEADER_LENGTH;
-pub use figures::MINIMUM_PLACE;
 pub use figures::WINDOW_LENGTH;
 pub use header::minimum_handover;
+pub use header::write_header;
 pub use questions::Validation;
+pub use questions::ask_own;
 pub use questions::validate;
 pub use windows::Window;
 pub use windows::overlap_in_order;

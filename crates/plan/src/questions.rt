@@ -16,7 +16,7 @@ ghost use Prim.Native.Nat.{_≤_};
 ghost use lib.ListN.{length};
 ghost use Rattle.refusals.specs.Question.{each, askedOf, firstNo};
 ghost use Rattle.plan.specs.File.{fileLength, windowAt};
-ghost use Rattle.plan.specs.Validation.{greatestCount, minimumPasses, offsetBefore, windowQuestions, validateAnswerOf};
+ghost use Rattle.plan.specs.Validation.{greatestCount, minimumPasses, offsetBefore, ownQuestions, windowQuestions, validateAnswerOf};
 
 pub enum Validation {
     // Every question is answered "yes": the plan number, and how many windows there are.
@@ -31,15 +31,26 @@ fn is_minimum(minimum: u32) -> bool
     1 <= minimum && minimum <= GREATEST_MINIMUM
 }
 
-// Questions 4, 5 and 6 of a window of a plan with this minimum. `before` is the offset of the window before it.
-fn ask_window(minimum: u32, before: u32, window: Window) -> Asked
-    ensures { λ r. ⌜ r ≡ askedOf (windowQuestions minimum before window) ⌝ }
+// Questions 4 and 5, which a window of a plan with this minimum is put to by itself.
+pub fn ask_own(minimum: u32, window: Window) -> Asked
+    ensures { λ r. ⌜ r ≡ askedOf (ownQuestions minimum window) ⌝ }
 {
     if window.length < minimum {
         return Asked::Refused(Refusal::by(4));
     }
     if GREATEST_END < window_end(window) {
         return Asked::Refused(Refusal::by(5));
+    }
+    Asked::Passed
+}
+
+// Questions 4, 5 and 6 of a window of a plan with this minimum. `before` is the offset of the window before it.
+fn ask_window(minimum: u32, before: u32, window: Window) -> Asked
+    ensures { λ r. ⌜ r ≡ askedOf (windowQuestions minimum before window) ⌝ }
+{
+    let own = ask_own(minimum, window);
+    if let Asked::Refused(refusal) = own {
+        return Asked::Refused(refusal);
     }
     if window.offset < before {
         return Asked::Refused(Refusal::by(6));

@@ -1,13 +1,13 @@
 -- Laws of the numbers in bytes: past the end, in a part, ranges, bytes written over others, and the round trip both ways.
 -- Assumes nothing.
 use Prim.Native.Nat.{ℕ, suc, _+_, _*_, _/_, _%_, _≤_, _<_}
-use mathlib.Core.{Path._≡_, Path.refl, Path.sym, Path._∙_, List.List, List.[], List._∷_, List._++_, List.append-assoc}
+use mathlib.Core.{Path._≡_, Path.refl, Path.sym, Path._∙_, Logic.⊎-elim, List.List, List.[], List._∷_, List._++_, List.append-assoc}
 use native.Mathlib.Omega.{arith}
 use native.Mathlib.Numerals.{add-one}
 use lib.ListN.{length, getD, set, take, drop, take-append-drop, length-append, length-drop, List·getD-eq-default}
 use lib.Seq.{sets, sets-eq, length-sets, take-at, drop-at, take-add, drop-drop, drop-append-add, length-take-le, drop-cons, getD-take, getD-drop}
 use borrow.Author.Tests.{le-leb, lt-leb}
-use Rattle.sequences.specs.Table.{overwritten}
+use Rattle.sequences.{specs.Table.overwritten, proofs.Tests.lt-or-ge}
 use Rattle.wire.specs.LittleEndian.{le16, le32, bytes16, bytes32, placed}
 
 -- A number that begins past the end is 0.
@@ -49,6 +49,11 @@ placed-fits l at new h = rw (le-leb (at + length new) (length l) h) (sym (sets-e
 pub placed-short : (l : List ℕ) (at : ℕ) (new : List ℕ) → length l < at + length new → placed l at new ≡ l
 unfolding placed
 placed-short l at new h = rw (lt-leb (at + length new) (length l) h)
+
+-- Neither alters how long the list is.
+pub length-placed : (l : List ℕ) (at : ℕ) (new : List ℕ) → length (placed l at new) ≡ length l
+length-placed l at new =
+    ⊎-elim (λ h. rw (placed-short l at new h)) (λ h. rw (placed-fits l at new h) (length-sets l at new)) (lt-or-ge (length l) (at + length new))
 
 -- A number's bytes, as the code stores them.
 module _ (l : List ℕ) (at x : ℕ) where
@@ -93,6 +98,11 @@ placed-there l at new h =
     rw (le-leb (at + length new) (length l) h, append-assoc, drop-at (take at l) (new ++ drop (at + length new) l) at (length-take-le at l (omega arith)))
     (take-at new (drop (at + length new) l) (length new) refl)
 
+-- At the front they are the table's first entries.
+pub placed-front : (l new : List ℕ) → length new ≤ length l → placed l 0 new ≡ overwritten l new
+unfolding placed overwritten
+placed-front l new h = let e : 0 + length new ≡ length new = omega arith in rw (e, le-leb (length new) (length l) h)
+
 -- Bytes that stand there already change nothing.
 pub placed-same : (l : List ℕ) (at k : ℕ) → at + k ≤ length l → placed l at (take k (drop at l)) ≡ l
 unfolding placed
@@ -124,7 +134,7 @@ pub le32-bytes32 : (x : ℕ) (rest : List ℕ) → le32 (bytes32 x ++ rest) 0 �
 unfolding le32 bytes32
 le32-bytes32 x rest = omega arith
 
--- Two bytes that are read are written back the same.
+-- Two bytes that are read are written back the same, and so are four.
 pub bytes16-at : (l : List ℕ) (at : ℕ) → ((i : ℕ) → getD l i 0 < 256) → at + 2 ≤ length l → bytes16 (le16 l at) ≡ take 2 (drop at l)
 unfolding le16 bytes16
 bytes16-at l at bytes h =
@@ -133,3 +143,30 @@ bytes16-at l at bytes h =
     let first : drop at l ≡ getD l at 0 ∷ drop (suc at) l = drop-cons l at 0 (omega arith) in
     let second : drop (suc at) l ≡ getD l (suc at) 0 ∷ drop (suc (suc at)) l = drop-cons l (suc at) 0 (omega arith) in
     rw (low, high, first, second, add-one at)
+
+pub bytes32-at : (l : List ℕ) (at : ℕ) → ((i : ℕ) → getD l i 0 < 256) → at + 4 ≤ length l → bytes32 (le32 l at) ≡ take 4 (drop at l)
+unfolding le32 bytes32
+bytes32-at l at bytes h =
+    let second : at + 1 ≡ suc at = omega arith in
+    let third : at + 2 ≡ suc (suc at) = omega arith in
+    let fourth : at + 3 ≡ suc (suc (suc at)) = omega arith in
+    rw (
+      second,
+      third,
+      fourth,
+      drop-cons l at 0 (omega arith),
+      drop-cons l (suc at) 0 (omega arith),
+      drop-cons l (suc (suc at)) 0 (omega arith),
+      drop-cons l (suc (suc (suc at))) 0 (omega arith),
+    ) (four _ _ _ _ (bytes at) (bytes (suc at)) (bytes (suc (suc at))) (bytes (suc (suc (suc at)))))
+  where
+    four : (a b c d : ℕ) → a < 256 → b < 256 → c < 256 → d < 256 →
+        (let x = a + 256 * b + 65536 * c + 16777216 * d in x % 256 ∷ x / 256 % 256 ∷ x / 65536 % 256 ∷ x / 16777216 ∷ []) ≡ a ∷ b ∷ c ∷ d ∷ []
+    four a b c d la lb lc ld =
+        let x = a + 256 * b + 65536 * c + 16777216 * d in
+        let one : x % 256 ≡ a = omega arith in
+        let past : x / 256 ≡ b + 256 * c + 65536 * d = omega arith in
+        let further : x / 65536 ≡ c + 256 * d = omega arith in
+        let two : (b + 256 * c + 65536 * d) % 256 ≡ b = omega arith in
+        let three : (c + 256 * d) % 256 ≡ c = omega arith in
+        let last : x / 16777216 ≡ d = omega arith in rw (one, past, further, last, two, three)

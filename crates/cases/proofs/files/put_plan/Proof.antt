@@ -16,14 +16,8 @@ Inv-loop file₀ windows minimum given text from at₀ position₀ file at posit
 abbrev μ-loop : tie.MeasureT-loop
 μ-loop file₀ windows minimum given text from at₀ position₀ file at position = greatestCount - position
 
-write-u16-requires : tie.Need-write-u16-requires Inv-loop μ-loop
-write-u16-requires c κs = search needs
-
-write-u16-requires-2 : tie.Need-write-u16-requires-2 Inv-loop μ-loop
-write-u16-requires-2 c κs = search needs
-
-write-u32-requires : tie.Need-write-u32-requires Inv-loop μ-loop
-write-u32-requires c κs = search needs
+write-header-requires : tie.Need-write-header-requires Inv-loop μ-loop
+write-header-requires c κs = search needs
 
 loop-holds : tie.Need-loop-holds Inv-loop μ-loop
 loop-holds c = omega arith
@@ -66,6 +60,6 @@ returns c = search needs
 
 pub put-plan-spec : {M : Type 1} → statement M
 put-plan-spec =
-    tie.close (tie.spec Inv-loop μ-loop write-u16-requires write-u16-requires-2 write-u32-requires loop-holds stair-requires
-    window-at-requires next-word-requires next-word-requires-2 cast-window-place window-place-requires write-window-requires add-position
-    loop-less loop-again same-length returns)
+    tie.close (tie.spec Inv-loop μ-loop write-header-requires loop-holds stair-requires window-at-requires next-word-requires
+    next-word-requires-2 cast-window-place window-place-requires write-window-requires add-position loop-less loop-again same-length
+    returns)
