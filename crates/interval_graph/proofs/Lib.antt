@@ -8,6 +8,7 @@
 --   Level, Rule                                that the rule on two windows' numbers gives the least count
 --   Bounds, Reach, Sameness                    how great the numbers become, and what they say of the whole
 --   Farthest, Greatest                         reach: the definition and its meaning, and how it is had without looking at pairs
+--   Cut                                        what a window's numbers do not depend on
 --   Outcome                                    the rule on any two windows' numbers, in either order
 --   Even                                       where lasts do not fall, the rule on short tags says the same
 --   Plan12                                     the worked example, by computation
@@ -33,6 +34,7 @@ pub mod Reach
 pub mod Farthest
 pub mod Greatest
 pub mod Sameness
+pub mod Cut
 pub mod Outcome
 pub mod Even
 pub mod Plan12

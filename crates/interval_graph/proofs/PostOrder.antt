@@ -67,7 +67,7 @@ module _ (n : ℕ) {parent : ℕ → ℕ} (forest : Forest parent) where
       go (suc levels) v h b = step v h (λ c k. go levels c (k .window) (omega (arith, k .behind)))
 
   -- As many levels as there are positions from v on are enough.
-  levels-enough : (f g v : ℕ) → v < n → n ≤ v + f → n ≤ v + g → postOrderTo n parent f v ≡ postOrderTo n parent g v
+  pub levels-enough : (f g v : ℕ) → v < n → n ≤ v + f → n ≤ v + g → postOrderTo n parent f v ≡ postOrderTo n parent g v
   unfolding postOrderTo
   levels-enough zero g v h a b = absurd (omega arith)
   levels-enough (suc f) zero v h a b = absurd (omega arith)

@@ -77,6 +77,14 @@ greatest-cong p q (suc n) d e =
     let below : greatest p n d ≡ greatest q n d = greatest-cong p q n d (λ k h. e k (omega arith)) in
     let here : p n ≡ q n = e n (omega arith) in rw (below, here)
 
+-- Where nothing from a on passes, the numbers before a decide.
+pub greatest-none : (p : ℕ → Bool) (a k d : ℕ) → ((i : ℕ) → a ≤ i → i < a + k → p i ≡ false) → greatest p (a + k) d ≡ greatest p a d
+unfolding greatest
+greatest-none p a zero d h = let e : a + zero ≡ a = omega arith in ap (λ n. greatest p n d) e
+greatest-none p a (suc k) d h =
+    let e : a + suc k ≡ suc (a + k) = omega arith in
+    rw (e, h (a + k) (omega arith) (omega arith)) (greatest-none p a k d (λ i l r. h i l (omega arith)))
+
 -- count
 
 pub count-true : (p : ℕ → Bool) (n : ℕ) → p n ≡ true → count p (suc n) ≡ suc (count p n)
@@ -144,3 +152,19 @@ count-range p a b n before within after le =
     omega (arith, ap (count p) e)) (λ h. let e : n ≡ 0 + n = omega arith in
     let none : count p (0 + n) ≡ 0 = count-none p 0 n (λ i l r. ⊎-elim (λ g. before i g) (λ g. after i (omega arith)) (lt-or-ge i a)) in
     omega (arith, ap (count p) e)) (lt-or-ge a b)
+
+-- Of a test that passes every number before one that passes, the count is where the passing ends.
+module _ (p : ℕ → Bool) (n : ℕ) (front : (i j : ℕ) → i ≤ j → j < n → p j ≡ true → p i ≡ true) where
+  pub count-within : (k : ℕ) → k < n → p k ≡ true → k < count p n
+  unfolding count
+  count-within k h t =
+      let e : n ≡ 0 + suc k + (n - suc k) = omega arith in
+      let all : count p (0 + suc k) ≡ count p 0 + suc k = count-every p 0 (suc k) (λ i l r. front i k (omega arith) h t) in
+      omega (arith, ap (count p) e, count-monotone p (0 + suc k) (n - suc k))
+
+  pub count-behind : (k : ℕ) → k < n → p k ≡ false → count p n ≤ k
+  count-behind k h f =
+      let e : n ≡ k + (n - k) = omega arith in
+      let none : count p (k + (n - k)) ≡ count p k = count-none p k (n - k) (λ i l r.
+      ⊎-elim (λ t. absurd (true-false-absurd _ (front k i l (omega arith) t) f)) (λ t. t) (truth (p i))) in
+      omega (arith, ap (count p) e, count-le p k)
