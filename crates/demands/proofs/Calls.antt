@@ -43,7 +43,7 @@ bytes-equal : (m n : Numbers) → m .component ≡ n .component → m .depth ≡
 unfolding tagBytes shortBytes bytes16
 bytes-equal m n c d r l = rw (c, d, r, l)
 
-tag-bytes : (file : List ℕ) (v : ℕ) → v < windowCount file → tagAt file v ≡ tagBytes (numbersAt file v)
+pub tag-bytes : (file : List ℕ) (v : ℕ) → v < windowCount file → tagAt file v ≡ tagBytes (numbersAt file v)
 unfolding tagAt
 tag-bytes file v h = tagFile-lookup (numbersAt file) (windowCount file) v h
 

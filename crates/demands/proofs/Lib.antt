@@ -1,4 +1,5 @@
--- The statements of specs/, proved: Refusals, Tree, EndToEnd (`demand-3`, in Counts), Calls, Short, Cases, Minimum, Page, Reach.
+-- The statements of specs/, proved: Refusals, Tree, EndToEnd (`demand-3`, in Counts), Calls, Short, Cases, Minimum, Page, Reach,
+-- Change.
 --   Refusals  demand 1
 --   Tree      demand 2
 --   Counts    demand 3, of the definitions that the calls answer by
@@ -9,6 +10,7 @@
 --   Minimum   Q-2: the minimum handover
 --   Page      Q-4: a page of pairs
 --   Reach     Q-5: reach exactly
+--   Change    Q-6: adding and withdrawing
 pub mod Refusals
 pub mod Tree
 pub mod Counts
@@ -19,3 +21,4 @@ pub mod Cases
 pub mod Minimum
 pub mod Page
 pub mod Reach
+pub mod Change

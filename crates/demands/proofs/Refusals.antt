@@ -34,6 +34,7 @@ use Rattle.tree.specs.Build.{buildAnswerOf, tagsAnswerOf, afterTags}
 use Rattle.minutes.specs.SingleTable.{tableAnswerOf, afterTable}
 use Rattle.minutes.specs.EvenTable.{evenTableAnswerOf}
 use Rattle.even_tags.specs.ShortTags.{shortTagsAnswerOf, afterShortTags}
+use Rattle.changing.specs.Questions.{changeAnswerOf, afterChange}
 use Rattle.reaching.specs.Reach.{reachIn, reachOf, reachAnswerOf}
 use Rattle.path.specs.declared.answers.ChainAnswer.the-variants as ChainAnswer
 use Rattle.path.specs.declared.answers.NeighboursAnswer.the-variants as NeighboursAnswer
@@ -85,7 +86,7 @@ pub demand-1 : Demand1
 unfolding validateAnswerOf numbersAnswerOf buildAnswerOf tagsAnswerOf tableAnswerOf reachIn reachOf reachAnswerOf chainAnswerOf neighboursAnswerOf sameAnswerOf
     readAnswerOf writeAnswerOf lookupAnswerOf pairAnswerOf pairAtAnswerOf afterBuild afterTags afterTable afterChain afterNeighbours
     afterWrite shortTagsAnswerOf evenTableAnswerOf shortReadAnswerOf shortWriteAnswerOf shortPairAnswerOf shortPairAtAnswerOf afterShortTags
-    afterShortWrite pageAnswerOf ifFilled afterPage queryQuestions
+    afterShortWrite pageAnswerOf ifFilled afterPage queryQuestions changeAnswerOf afterChange
 demand-1 =
     record {
       validating = λ file. refuses Validation.Refused _ (λ r s e. cc) (λ r e. let z : _≡_ {A = ℕ} 0 1 = cc in omega arith) _;
@@ -96,6 +97,7 @@ demand-1 =
       reaching = λ file at. refuses ReachAnswer.Refused _ (λ r s e. cc) (λ r e. let z : _≡_ {A = ℕ} 0 1 = cc in omega arith) _;
       chaining = λ file first second room. refuses ChainAnswer.Refused _ (λ r s e. cc) (chain-found (chainBetween file first second)) _;
       neighbouring = λ file at room. refuses NeighboursAnswer.Refused _ (λ r s e. cc) (λ r e. let z : _≡_ {A = ℕ} 0 1 = cc in omega arith) _;
+      changing = λ file c changed tags. refuses BuildAnswer.Refused _ (λ r s e. cc) (λ r e. let z : _≡_ {A = ℕ} 0 1 = cc in omega arith) _;
       comparing = λ first second. refuses SameAnswer.Refused _ (λ r s e. cc) (same-found (sameOverlap first second)) _;
       reading = λ bytes. refuses TagRead.Refused _ (λ r s e. cc) (λ r e. let z : _≡_ {A = ℕ} 0 1 = cc in omega arith) _;
       writing = λ n out. refuses WriteAnswer.Refused _ (λ r s e. cc) (λ r e. let z : _≡_ {A = ℕ} 0 1 = cc in omega arith) _;
@@ -118,6 +120,7 @@ demand-1 =
       tags-untouched = λ r f before. refl;
       short-tags-untouched = λ r f before. refl;
       table-untouched = λ r f before. refl;
+      change-untouched = λ r new before. refl;
       chain-untouched = λ r chain before. refl;
       neighbours-untouched = λ r neighbours before. refl;
       write-untouched = λ r n before. refl;

@@ -28,6 +28,7 @@ use Rattle.numbering.specs.Numbering.{numbersAnswerOf, afterBuild}
 use Rattle.tree.specs.Build.{buildQuestions, buildAnswerOf, tagsQuestions, tagsAnswerOf, afterTags}
 use Rattle.even_tags.specs.ShortTags.{shortTagsQuestions, shortTagsAnswerOf, afterShortTags}
 use Rattle.numbering.specs.declared.answers.BuildAnswer.the-variants as BuildAnswer
+use Rattle.changing.specs.{declared.records.Change.Change, Questions.changeQuestions, Questions.changeAnswerOf, Questions.afterChange}
 use Rattle.reaching.specs.Reach.{reachQuestions, reachAnswerOf}
 use Rattle.reaching.specs.declared.answers.ReachAnswer.the-variants as ReachAnswer
 use Rattle.path.specs.Chain.{chainQuestions, chainAnswerOf, afterChain}
@@ -59,6 +60,10 @@ pub record Demand1 : Type 0 where
   pub chaining : (file : List ℕ) (u v room : ℕ) → Refuses (chainQuestions file u v room) ChainAnswer.Refused (chainAnswerOf file u v room)
   pub neighbouring :
       (file : List ℕ) (v room : ℕ) → Refuses (neighboursQuestions file v room) NeighboursAnswer.Refused (neighboursAnswerOf file v room)
+  -- (a change, with buffers of so many bytes; paper 02, Q-6)
+  pub changing :
+      (file : List ℕ) (c : Change) (changed tags : ℕ) →
+      Refuses (changeQuestions file c changed tags) BuildAnswer.Refused (changeAnswerOf file c changed tags)
   pub comparing : (first second : List ℕ) → Refuses (sameQuestions first second) SameAnswer.Refused (sameAnswerOf first second)
   -- On tags:
   pub reading : (bytes : List ℕ) → Refuses (readQuestions bytes) TagRead.Refused (readAnswerOf bytes)
@@ -86,6 +91,7 @@ pub record Demand1 : Type 0 where
   pub tags-untouched : (r : Refusal) (f : ℕ → Numbers) (before : List ℕ) → afterTags (BuildAnswer.Refused r) f before ≡ before
   pub short-tags-untouched : (r : Refusal) (f : ℕ → Numbers) (before : List ℕ) → afterShortTags (BuildAnswer.Refused r) f before ≡ before
   pub table-untouched : (r : Refusal) (f : ℕ → ℕ) (before : List ℕ) → afterTable (TableAnswer.Refused r) f before ≡ before
+  pub change-untouched : (r : Refusal) (new before : List ℕ) → afterChange (BuildAnswer.Refused r) new before ≡ before
   pub chain-untouched : (r : Refusal) (l before : List ℕ) → afterChain (ChainAnswer.Refused r) l before ≡ before
   pub neighbours-untouched : (r : Refusal) (l before : List ℕ) → afterNeighbours (NeighboursAnswer.Refused r) l before ≡ before
   pub write-untouched : (r : Refusal) (n : Numbers) (before : List ℕ) → afterWrite (WriteAnswer.Refused r) n before ≡ before
