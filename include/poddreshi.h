@@ -1,11 +1,12 @@
 /* Poddreshi: service windows, their distance tree and tags of ten bytes, or of eight for even plans. The C interface (C99).
  *
  * Link target/staticlib/libpoddreshi.a, which `rt staticlib poddreshi` writes. Beside it is needed only the C library's
- * memset. It keeps no state, allocates nothing and may be called from any thread. poddreshi_tags and poddreshi_short_tags use at most
- * 38 kB of stack, the calls that take no plan file some bytes, and all others at most 17 kB.
+ * memset. It keeps no state, allocates nothing and may be called from any thread. poddreshi_tags, poddreshi_short_tags,
+ * poddreshi_add and poddreshi_withdraw use at most 38 kB of stack, the calls that take no plan file some bytes, and all others at
+ * most 17 kB.
  *
  * THE ANSWER of every call is one number of 64 bits: four fields of 16 bits, the lowest first. The first field is the kind.
- * A refusal has kind PODDRESHI_REFUSED in every call, and then the question's number (1 to 14), the input at fault (0 the
+ * A refusal has kind PODDRESHI_REFUSED in every call, and then the question's number (1 to 16), the input at fault (0 the
  * first, 1 the second) and the position of the window being read, or 0. What the other kinds hold is said at each call;
  * fields that are not named are 0. The functions at the end take an answer apart.
  *
@@ -36,12 +37,16 @@
  *    6  Is the offset at least that of the one before?   12  Do tags of equal component and rank agree in all fields?
  *   13  Does no window end before the one ahead of it?
  *       (Asked where short tags are wanted.)
+ *   15  Has the plan fewer than 2,048 windows?
+ *       (Asked where one is to be added.)
+ *   16  Is the new plan number another than the old?
+ *       (Then 4 and 5 are asked of an added window.)
  */
 #ifndef PODDRESHI_H
 #define PODDRESHI_H
 
 /* The version of the library that this header belongs to. */
-#define PODDRESHI_VERSION "3.0.0"
+#define PODDRESHI_VERSION "3.1.0"
 
 #include <stddef.h>
 #include <stdint.h>
@@ -100,6 +105,22 @@ uint64_t poddreshi_tags(const uint8_t *file, size_t file_length, uint8_t *tags, 
  * has room for 8 n bytes.
  * BUILT, as build answers. The first 8 n bytes of tags are the short tags in order of position. */
 uint64_t poddreshi_short_tags(const uint8_t *file, size_t file_length, uint8_t *tags, size_t tags_length);
+
+/* A plan with one window more, and its tag file. The plan's questions; 15; 16; 4 and 5 of the added window, with position 0; and 8:
+ * changed has room for 8 + 8 n bytes and tags for 10 n, where n is the number of windows with the added one.
+ * BUILT, as build answers of the changed plan. The first 8 + 8 n bytes of changed are its file: the number that is given, the minimum
+ *     handover of the plan, and its windows with the added one behind all that have the same or a smaller offset. The first 10 n
+ *     bytes of tags are what poddreshi_tags writes for that file. Tags of components that lie wholly before the added window and have no
+ *     overlap with it keep all but the plan number. */
+uint64_t poddreshi_add(const uint8_t *file, size_t file_length, uint16_t plan, uint32_t offset, uint32_t length,
+                       uint8_t *changed, size_t changed_length, uint8_t *tags, size_t tags_length);
+
+/* A plan with one window less, and its tag file. The plan's questions; 16; 7; and 8: changed has room for 8 + 8 n bytes and tags for
+ * 10 n, where n is the number of windows without the withdrawn one.
+ * BUILT, as build answers of the changed plan, which is written as by poddreshi_add. Each window behind the withdrawn one stands one
+ *     position earlier. Tags of components with smaller numbers than the withdrawn window's keep all but the plan number. */
+uint64_t poddreshi_withdraw(const uint8_t *file, size_t file_length, uint16_t plan, size_t at,
+                            uint8_t *changed, size_t changed_length, uint8_t *tags, size_t tags_length);
 
 /* How far apart two windows of a position's component are at most. The plan's questions and 7.
  * REACH: the greatest number of handovers between two windows of the component, each two counted by their shortest chain; and then

@@ -23,6 +23,18 @@ extern "C" {
     ) -> u64;
     pub fn poddreshi_tags(file: *const u8, length: usize, tags: *mut u8, tags_length: usize) -> u64;
     pub fn poddreshi_short_tags(file: *const u8, length: usize, tags: *mut u8, tags_length: usize) -> u64;
+    pub fn poddreshi_add(
+        file: *const u8, length: usize,
+        plan: u16, window_offset: u32, window_length: u32,
+        changed: *mut u8, changed_length: usize,
+        tags: *mut u8, tags_length: usize,
+    ) -> u64;
+    pub fn poddreshi_withdraw(
+        file: *const u8, length: usize,
+        plan: u16, at: usize,
+        changed: *mut u8, changed_length: usize,
+        tags: *mut u8, tags_length: usize,
+    ) -> u64;
     pub fn poddreshi_reach(file: *const u8, length: usize, at: usize) -> u64;
     pub fn poddreshi_chain(file: *const u8, length: usize, first: usize, second: usize, out: *mut u16, out_length: usize) -> u64;
     pub fn poddreshi_neighbours(file: *const u8, length: usize, at: usize, out: *mut u16, out_length: usize) -> u64;

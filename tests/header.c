@@ -127,9 +127,67 @@ static void check_short(void) {
     check(refused(poddreshi_short_pair_at(tags_of_even, 56, 0, 7), 7, 1, 0), "a second position past the last short tag");
 }
 
+/* What stands in a buffer before a call. */
+enum { PAINT = 40 };
+
+/* Whether so many bytes stand as they did. */
+static int painted(const uint8_t *bytes, size_t length) {
+    while (length > 0 && bytes[length - 1] == PAINT) length--;
+    return length == 0;
+}
+
+/* Plan 12 with a window (17, 3), which goes behind the one that begins with it, and the same withdrawn again. */
+static void check_changes(void) {
+    static const uint16_t joined[8][4] = {{0, 0, 7, 6}, {0, 1, 0, 5}, {0, 1, 5, 4}, {0, 1, 6, 6},
+                                          {0, 2, 4, 3}, {0, 3, 1, 3}, {0, 3, 3, 2}, {0, 4, 2, 2}};
+    static const uint8_t empty[] = {0, 0, 0, 0, 1, 0, 0, 0}, window[] = {17, 0, 0, 0, 3, 0, 0, 0};
+    uint8_t due[72], more[80], more_tags[90], less[80], less_tags[90];
+    int i;
+
+    memset(more, PAINT, sizeof more);
+    memset(more_tags, PAINT, sizeof more_tags);
+    memset(less, PAINT, sizeof less);
+    memset(less_tags, PAINT, sizeof less_tags);
+    check(refused(poddreshi_add(file, sizeof file, 12, 17, 3, more, 72, more_tags, 80), 16, 0, 0), "add with the old plan number");
+    check(refused(poddreshi_add(file, sizeof file, 13, 17, 0, more, 72, more_tags, 80), 4, 0, 0), "a short window to add");
+    check(refused(poddreshi_add(file, sizeof file, 13, 4294967295u, 6, more, 72, more_tags, 80), 5, 0, 0), "a late window to add");
+    check(refused(poddreshi_add(file, sizeof file, 13, 17, 3, more, 71, more_tags, 80), 8, 0, 0), "a short buffer for the plan");
+    check(refused(poddreshi_add(file, sizeof file, 13, 17, 3, more, 72, more_tags, 79), 8, 0, 0), "a short buffer for its tags");
+    check(refused(poddreshi_withdraw(file, sizeof file, 12, 6, less, 56, less_tags, 60), 16, 0, 0), "withdraw with the old number");
+    check(refused(poddreshi_withdraw(file, sizeof file, 13, 7, less, 56, less_tags, 60), 7, 0, 0), "a position that is not there");
+    check(refused(poddreshi_withdraw(file, sizeof file, 13, 6, less, 55, less_tags, 60), 8, 0, 0), "a short buffer for less");
+    check(refused(poddreshi_withdraw(file, sizeof file, 13, 6, less, 56, less_tags, 59), 8, 0, 0), "a short buffer for fewer tags");
+    check(painted(more, sizeof more) && painted(more_tags, sizeof more_tags), "what a refused addition leaves");
+    check(painted(less, sizeof less) && painted(less_tags, sizeof less_tags), "what a refused withdrawal leaves");
+
+    memcpy(due, file, 56);
+    memcpy(due + 56, window, 8);
+    memcpy(due + 64, file + 56, 8);
+    due[0] = 13;
+    due[2] = 8;
+    check(is(poddreshi_add(file, sizeof file, 13, 17, 3, more, sizeof more, more_tags, sizeof more_tags), PODDRESHI_BUILT, 13, 8, 1),
+          "add");
+    check(memcmp(more, due, sizeof due) == 0 && painted(more + 72, sizeof more - 72), "the plan with a window more");
+    for (i = 0; i < 8; i++) {
+        const uint16_t *row = joined[i];
+
+        check(is(poddreshi_write(13, row[0], row[1], row[2], row[3], tag, 10), PODDRESHI_WRITTEN, 0, 0, 0), "write");
+        check(memcmp(more_tags + 10 * i, tag, 10) == 0, "the tags of the plan with a window more");
+    }
+    check(painted(more_tags + 80, sizeof more_tags - 80), "what lies past the tags");
+    check(is(poddreshi_withdraw(more, 72, 12, 6, less, sizeof less, less_tags, sizeof less_tags), PODDRESHI_BUILT, 12, 7, 2),
+          "withdraw");
+    check(memcmp(less, file, sizeof file) == 0 && painted(less + 64, sizeof less - 64), "the plan with a window less");
+    check(memcmp(less_tags, tags, sizeof tags) == 0 && painted(less_tags + 70, sizeof less_tags - 70), "the tags with a window less");
+    check(is(poddreshi_add(empty, sizeof empty, 12, 5, 5, more, 16, more_tags, 10), PODDRESHI_BUILT, 12, 1, 1), "add to no window");
+    check(is(poddreshi_withdraw(more, 16, 0, 0, less, 8, less_tags, 0), PODDRESHI_BUILT, 0, 0, 0), "withdraw the only window");
+    check(memcmp(less, empty, sizeof empty) == 0, "the plan with no window");
+}
+
 /* The figures are where the library's answers change. */
 static void check_figures(void) {
-    static uint8_t longest[PODDRESHI_FILE_LIMIT];
+    static uint8_t longest[PODDRESHI_FILE_LIMIT], changed[PODDRESHI_FILE_LIMIT];
+    static uint8_t changed_tags[PODDRESHI_TAG_LENGTH * PODDRESHI_WINDOWS_LIMIT];
     unsigned n = PODDRESHI_WINDOWS_LIMIT, i;
 
     check(is(poddreshi_write(12, PODDRESHI_FIELD_LIMIT, 0, 0, 0, tag, PODDRESHI_TAG_LENGTH), PODDRESHI_WRITTEN, 0, 0, 0), "a tag");
@@ -144,6 +202,14 @@ static void check_figures(void) {
     longest[4] = 1;
     for (i = 0; i < n; i++) longest[12 + 8 * i] = 1;
     check(is(poddreshi_validate(longest, sizeof longest), PODDRESHI_ACCEPTED, 0, n, 0), "the longest file");
+    check(refused(poddreshi_add(longest, sizeof longest, 12, 0, 1, changed, sizeof changed, changed_tags, sizeof changed_tags), 15, 0, 0),
+          "a window more than the limit");
+    check(is(poddreshi_withdraw(longest, sizeof longest, 12, 0, changed, sizeof changed, changed_tags, sizeof changed_tags),
+             PODDRESHI_BUILT, 12, n - 1, 1),
+          "a window less than the limit");
+    check(is(poddreshi_add(changed, sizeof changed - 8, 0, 0, 1, longest, sizeof longest, changed_tags, sizeof changed_tags),
+             PODDRESHI_BUILT, 0, n, 1),
+          "a window more, up to the limit");
     longest[2] = (n + 1) % 256;
     check(refused(poddreshi_validate(longest, sizeof longest), 2, 0, 0), "the limit of windows");
 }
@@ -178,6 +244,7 @@ int main(void) {
     check_plan();
     check_build();
     check_page();
+    check_changes();
     check_short();
     check_figures();
     check_minimum();

@@ -10,6 +10,7 @@
 enum { WINDOWS = 2048, RECORDS = 300, STACK = 1 << 20, PAINT = 0xA5 };
 
 static unsigned char plan[8 + 8 * WINDOWS], tags[10 * WINDOWS], short_tags[8 * WINDOWS];
+static unsigned char fewer[8 + 8 * (WINDOWS - 1)], changed[8 + 8 * WINDOWS], changed_tags[10 * WINDOWS];
 static uint16_t tables[5][WINDOWS];
 static struct poddreshi_query queries[RECORDS];
 
@@ -21,6 +22,18 @@ static void build(void) {
 }
 static void tag_file(void) { poddreshi_tags(plan, sizeof plan, tags, sizeof tags); }
 static void short_tag_file(void) { poddreshi_short_tags(plan, sizeof plan, short_tags, sizeof short_tags); }
+/* A change that is refused would use less, and say nothing of the stack. */
+static void is_done(uint64_t answer) {
+    if (!poddreshi_is_refused(answer)) return;
+    printf("stack: a change is refused by %u\n", poddreshi_refusal_number(answer));
+    exit(2);
+}
+static void add(void) {
+    is_done(poddreshi_add(fewer, sizeof fewer, 13, 700, 9, changed, sizeof changed, changed_tags, sizeof changed_tags));
+}
+static void withdraw(void) {
+    is_done(poddreshi_withdraw(plan, sizeof plan, 13, 700, changed, sizeof changed, changed_tags, sizeof changed_tags));
+}
 static void reach(void) { poddreshi_reach(plan, sizeof plan, 5); }
 static void chain(void) { poddreshi_chain(plan, sizeof plan, 0, WINDOWS - 1, tables[0], WINDOWS); }
 static void neighbours(void) { poddreshi_neighbours(plan, sizeof plan, 5, tables[0], WINDOWS); }
@@ -45,7 +58,8 @@ static const struct { const char *name; void (*call)(void); long most; } calls[]
     {"chain", chain, 5000},            {"neighbours", neighbours, 17000},     {"same", same, 17000},
     {"pair", pair, 100},               {"pair_at", pair_at, 100},             {"page", page, 100},
     {"lookup", lookup, 100},           {"short_pair_at", short_pair_at, 100}, {"short_pair", short_pair, 100},
-    {"write", write_tag, 100},         {"short_write", write_short, 100},
+    {"write", write_tag, 100},         {"short_write", write_short, 100},     {"add", add, 38000},
+    {"withdraw", withdraw, 38000},
 };
 
 static void *run(void *call) {
@@ -80,6 +94,9 @@ int main(void) {
         plan[9 + 8 * v] = 2 * v >> 8;
         plan[12 + 8 * v] = 7;
     }
+    memcpy(fewer, plan, sizeof fewer); /* the same without the last, to which one can be added */
+    fewer[2] = (WINDOWS - 1) & 255;
+    fewer[3] = (WINDOWS - 1) >> 8;
     for (unsigned i = 0; i < RECORDS; i++) { /* pairs of windows, and behind them such as have a position past the last */
         queries[i].first = 7 * i;
         queries[i].second = WINDOWS - 100 + i / 2;

@@ -7,12 +7,14 @@ use crate::words::print_table;
 use plan::GREATEST_COUNT;
 use plan::HEADER_LENGTH;
 use plan::WINDOW_LENGTH;
+use poddreshi::poddreshi_add;
 use poddreshi::poddreshi_chain;
 use poddreshi::poddreshi_neighbours;
 use poddreshi::poddreshi_pair_at;
 use poddreshi::poddreshi_reach;
 use poddreshi::poddreshi_short_tags;
 use poddreshi::poddreshi_tags;
+use poddreshi::poddreshi_withdraw;
 use tag_bytes::Tag;
 
 // One byte more than any plan, so that a file that is too long is among the cases.
@@ -65,13 +67,36 @@ fn try_window(file: &[u8], at: usize) {
     print_answer(poddreshi_reach(file, at));
 }
 
-// Plan 12 is made here, for the one and the other.
-fn try_plan_12(pair: bool, first: usize, second: usize) {
+// A window more, in buffers for eight windows, and the reach of the changed plan's first window. What was not written is no plan.
+fn try_add(file: &[u8], plan: u16, offset: u32, minutes: u32) {
+    let mut changed = [0; HEADER_LENGTH + WINDOW_LENGTH * 8];
+    let mut tags = [0; Tag::LENGTH * 8];
+    print_answer(poddreshi_add(file, plan, offset, minutes, &mut changed, &mut tags));
+    print_answer(poddreshi_reach(&changed, 0));
+}
+
+// A window less, in buffers for six.
+fn try_withdraw(file: &[u8], plan: u16, at: usize) {
+    let mut changed = [0; HEADER_LENGTH + WINDOW_LENGTH * 6];
+    let mut tags = [0; Tag::LENGTH * 6];
+    print_answer(poddreshi_withdraw(file, plan, at, &mut changed, &mut tags));
+    print_answer(poddreshi_reach(&changed, 0));
+}
+
+// Plan 12 is made here, for each kind of case about it.
+fn try_plan_12(kind: u8, first: u64, second: u64, third: u64) {
     let file = files::plan_12();
-    if pair {
-        try_pair(&file, first, second);
-    } else {
-        try_window(&file, first);
+    match kind {
+        b'p' => try_pair(&file, first as usize, second as usize),
+        b'w' => try_window(&file, first as usize),
+        b'a' => try_add(
+            &file,
+            (first % 65536) as u16,
+            (second % 4294967296) as u32,
+            (third % 4294967296) as u32,
+        ),
+        b'l' => try_withdraw(&file, (first % 65536) as u16, second as usize),
+        _ => {}
     }
 }
 
@@ -80,12 +105,16 @@ pub(crate) fn try_line(text: &[u8], start: usize) {
     if start < text.len() {
         let kind = text[start];
         let at = next_word(text, start);
-        let first = number_at(text, at) as usize;
-        match kind {
-            b'f' => try_file(text, at),
-            b'p' => try_plan_12(true, first, number_at(text, next_word(text, at)) as usize),
-            b'w' => try_plan_12(false, first, first),
-            _ => {}
+        let behind = next_word(text, at);
+        if kind == b'f' {
+            try_file(text, at);
+        } else {
+            try_plan_12(
+                kind,
+                number_at(text, at),
+                number_at(text, behind),
+                number_at(text, next_word(text, behind)),
+            );
         }
     }
 }

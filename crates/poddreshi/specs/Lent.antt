@@ -1,10 +1,11 @@
 -- What the calls of the C interface leave in what is lent to them, where that is not said by the call below in the same words.
--- Vocabulary: builtIn, offsetAfter.
+-- Vocabulary: builtIn, changedIn, offsetAfter.
 use Prim.Native.Nat.{ℕ, _*_}
 use mathlib.Core.List.{List}
 use lib.ListN.{length}
 use Rattle.numbering.specs.declared.answers.BuildAnswer.{BuildAnswer}
 use Rattle.tree.specs.Build.{buildAnswerOf}
+use Rattle.changing.specs.{declared.records.Change.Change, Questions.changeAnswerOf}
 use Rattle.tag_bytes.specs.declared.tag_file.LookupAnswer.{LookupAnswer}
 use Rattle.tag_bytes.specs.declared.tag_file.LookupAnswer.the-variants.{Found, Refused}
 use Rattle.tag_bytes.specs.Fields.{tagLength}
@@ -13,6 +14,10 @@ use Rattle.tag_bytes.specs.Fields.{tagLength}
 abbrev pub builtIn : (file parents components depths ranks lastRanks tags : List ℕ) → BuildAnswer
 builtIn file parents components depths ranks lastRanks tags =
     buildAnswerOf file (length parents) (length components) (length depths) (length ranks) (length lastRanks) (length tags)
+
+-- What a change of a plan file is answered with the two buffers that are lent to it.
+abbrev pub changedIn : List ℕ → Change → (changed tags : List ℕ) → BuildAnswer
+changedIn file c changed tags = changeAnswerOf file c (length changed) (length tags)
 
 -- Where in the tag file the part begins that a lookup hands back: `lookupPart` takes its ten bytes from there. A part itself
 -- does not cross into C. A refused lookup leaves the number as it was.

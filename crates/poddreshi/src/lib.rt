@@ -1,9 +1,12 @@
 // The C interface. Each call takes numbers and slices alone, is total, and answers with one number of 64 bits, which
 // include/poddreshi.h unpacks.
+mod changes;
 mod pages;
 mod plans;
 mod tags;
 
+pub use changes::poddreshi_add;
+pub use changes::poddreshi_withdraw;
 pub use pages::PackedQuery;
 pub use pages::poddreshi_page;
 pub use plans::poddreshi_build;
