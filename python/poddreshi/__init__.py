@@ -18,6 +18,19 @@ Many pairs of one tag file are answered in one call. One that is refused has its
     no chain
     refused by question 7: there is no window 7: the tag file has 7 tags, 0 to 6
 
+A plan changes by a window that is added or withdrawn, and has a new number then. The changed plan comes with its tags, and with the
+positions whose tags changed in more than the plan number.
+
+    >>> changed = poddreshi.add(plan, 13, 20, 5)
+    >>> print(changed)
+    plan 13, 8 windows, 2 components
+    >>> changed.altered
+    (6, 7)
+    >>> poddreshi.chain(changed.file, 6, 7)
+    Chain(positions=(7, 6))
+    >>> poddreshi.withdraw(changed.file, 14, 7).altered
+    (6,)
+
 Two windows overlap when they share at least the plan's minimum handover, which is 1 minute where none is given.
 
     >>> bolting = poddreshi.pack(21, [(0, 60), (20, 90), (50, 70)], minimum=30)
@@ -35,8 +48,8 @@ of a page. The library is loaded at the first call, from the built checkout or t
 or from PODDRESHI_LIBRARY.
 """
 from ._version import __version__
-from .calls import Accepted, Chain, Handovers, Neighbours, Reach, Sameness, ShortTag, Tag, Tags, Tree
-from .calls import build, chain, lookup, neighbours, page, pair, pair_at, reach, read, same, tags, validate, write
+from .calls import Accepted, Chain, Changed, Handovers, Neighbours, Reach, Sameness, ShortTag, Tag, Tags, Tree
+from .calls import add, build, chain, lookup, neighbours, page, pair, pair_at, reach, read, same, tags, validate, withdraw, write
 from .calls import short_lookup, short_pair, short_pair_at, short_read, short_tags, short_write
 from .library import LibraryMissing
 from .oldplans import renewed
@@ -44,8 +57,8 @@ from .plans import Window, minimum_of, pack, windows_of
 from .refusals import Refused
 
 __all__ = [
-    *("Accepted", "Chain", "Handovers", "LibraryMissing", "Neighbours", "Reach", "Refused", "Sameness", "ShortTag", "Tag"),
-    *("Tags", "Tree", "Window", "__version__", "build", "chain", "lookup", "minimum_of", "neighbours", "pack", "page", "pair"),
-    *("pair_at", "reach", "read", "renewed", "same", "short_lookup", "short_pair", "short_pair_at", "short_read", "short_tags"),
-    *("short_write", "tags", "validate", "windows_of", "write"),
+    *("Accepted", "Chain", "Changed", "Handovers", "LibraryMissing", "Neighbours", "Reach", "Refused", "Sameness", "ShortTag"),
+    *("Tag", "Tags", "Tree", "Window", "__version__", "add", "build", "chain", "lookup", "minimum_of", "neighbours", "pack"),
+    *("page", "pair", "pair_at", "reach", "read", "renewed", "same", "short_lookup", "short_pair", "short_pair_at", "short_read"),
+    *("short_tags", "short_write", "tags", "validate", "windows_of", "withdraw", "write"),
 ]

@@ -8,8 +8,10 @@ from functools import lru_cache
 from typing import Iterable, List, NamedTuple, Optional, Tuple, Union
 
 from . import library
-from .figures import PLAN_NUMBER_LIMIT, TAG_LENGTH, WINDOWS_LIMIT
+from .figures import HEADER_LENGTH, NUMBER_LIMIT, PLAN_LIMIT, PLAN_NUMBER_LENGTH, PLAN_NUMBER_LIMIT
+from .figures import TAG_LENGTH, WINDOW_LENGTH, WINDOWS_LIMIT
 from .library import Kind, lend, lend_records, position, records, room, table, taken_apart
+from .plans import Window, windows_of
 from .refusals import Asked, Refused, refusal
 from .tagforms import LONG, SHORT, ShortTag, Tag, TagForm
 from .wording import counted
@@ -33,6 +35,22 @@ class Tags(NamedTuple):
 
     def __str__(self) -> str:
         return f"plan {self.plan}, {counted(self.windows, 'window')}, {counted(self.components, 'component')}"
+
+
+class Changed(NamedTuple):
+    """A plan with a window more or less, its file and its tag file. `was` has for each position that of the same window in the plan
+    before, and None for the added one. `altered` has the positions whose tags changed in more than the plan number; the added
+    window's is always one of them."""
+
+    plan: int
+    windows: int
+    components: int
+    file: bytes
+    tags: bytes
+    was: Tuple[Optional[int], ...]
+    altered: Tuple[int, ...]
+
+    __str__ = Tags.__str__
 
 
 class Tree(NamedTuple):
@@ -137,6 +155,52 @@ def tags(file, form: TagForm = LONG) -> Tags:
     out = room(form.length * WINDOWS_LIMIT)
     _, (plan, n, components) = _ask(form.prefix + "tags", Asked(plans=[file]), *lend(file), *out)
     return Tags(plan, n, components, bytes(out[0][: form.length * n]))
+
+
+def _ranged(number: int, limit: int, thing: str) -> int:
+    """A number that C can hold; of another it would take the lowest bytes."""
+    if not 0 <= number <= limit:
+        raise ValueError(f"{thing} is 0 to {limit:,}")
+    return number
+
+
+def _change(name: str, asked: Asked, *change) -> Tuple[bytes, Tags]:
+    """The file and the tag file of a changed plan."""
+    (file,), changed, out = asked.plans, room(PLAN_LIMIT), room(TAG_LENGTH * WINDOWS_LIMIT)
+    kind, numbers = library.ask(name, *lend(file), *change, *changed, *out)
+    if kind is Kind.REFUSED:
+        validate(file)  # raised here if the plan itself is refused, as everywhere; what is left is about the change
+        raise _worded(numbers, asked)
+    plan, n, components = numbers
+    made = Tags(plan, n, components, bytes(out[0][: TAG_LENGTH * n]))
+    return bytes(changed[0][: HEADER_LENGTH + WINDOW_LENGTH * n]), made
+
+
+def _compared(before: bytes, after: bytes, made: Tags, was: List[Optional[int]]) -> Changed:
+    """The changed plan, with what became of each tag."""
+    old, new = tags(before).tags, made.tags
+
+    def altered(position: int) -> bool:
+        at = was[position]
+        return at is None or LONG.at(old, at)[PLAN_NUMBER_LENGTH:] != LONG.at(new, position)[PLAN_NUMBER_LENGTH:]
+
+    return Changed(*made[:3], after, new, tuple(was), tuple(filter(altered, range(made.windows))))
+
+
+def add(file, number: int, offset: int, length: int) -> Changed:
+    """The plan with a window more, behind all that have the same or a smaller offset, and with a new plan number."""
+    file, number = lend(file)[0], _ranged(number, PLAN_NUMBER_LIMIT, "a plan number")
+    window = Window(_ranged(offset, NUMBER_LIMIT, "an offset"), _ranged(length, NUMBER_LIMIT, "a length"))
+    after, made = _change("add", Asked(plans=[file], added=window), number, *window)
+    at = sum(each.offset <= offset for each in windows_of(file))
+    return _compared(file, after, made, [*range(at), None, *range(at, made.windows - 1)])
+
+
+def withdraw(file, number: int, at: int) -> Changed:
+    """The plan without the window at a position, and with a new plan number."""
+    file, number = lend(file)[0], _ranged(number, PLAN_NUMBER_LIMIT, "a plan number")
+    after, made = _change("withdraw", Asked(plans=[file], positions=[at]), number, position(at))
+    return _compared(file, after, made, [*range(at), *range(at + 1, made.windows + 1)])
 
 
 def reach(file, at: int) -> Reach:

@@ -86,15 +86,15 @@ def option(*names: str, **options) -> Argument:
     return lambda parser: parser.add_argument(*names, **options)
 
 
-def forms(*others: str) -> Argument:
-    """The forms of an answer beside text, and where it goes."""
+def forms(*others: str, output: Optional[Argument] = None) -> Argument:
+    """The forms of an answer beside text, and where it goes, or what else the command writes."""
 
     def add(parser: Parser) -> None:
         group = parser.add_mutually_exclusive_group()
         for form in ("csv", "json", *others):
             words = f"answer as {form.upper()}"
             group.add_argument(f"--{form}", dest="form", action="store_const", const=form, default="text", help=words)
-        OUTPUT(parser)
+        (output or OUTPUT)(parser)
 
     return add
 
@@ -174,9 +174,10 @@ def _answer(commands: Sequence[Command], words: Optional[Sequence[str]]) -> int:
     if root and not places.told():
         building.ensure(root)
     reply = args.run(args)
-    files.write(getattr(args, "output", None), reply.encoded(getattr(args, "form", "text")))
-    for fault in reply.faults:
-        files.say(fault)
+    answer = (getattr(args, "output", None), reply.encoded(getattr(args, "form", "text")))
+    files.write_together([*reply.files, answer])
+    for line in (*reply.aside, *reply.faults):
+        files.say(line)
     if reply.refused or reply.faults:
         return failures.REFUSED
     return failures.OTHERWISE if reply.otherwise and getattr(args, "exit_code", False) else failures.ANSWERED

@@ -8,12 +8,12 @@ import stat
 import sys
 import tempfile
 from pathlib import Path
-from typing import Iterable, Iterator, Optional, Union
+from typing import Iterable, Iterator, Optional, Sequence, Tuple, Union
 
 from .failures import Failure
 
 _STREAMS = ("/dev/std", "/dev/fd/", "/proc/")
-_BESIDE = ".poddreshi."  # how the name of a file or folder begins that is not yet whole
+_BESIDE = ".poddreshi."  # how the name of a file or folder begins that is not yet whole, or kept until another is
 _closed = set()
 
 Data = Union[bytes, Iterable[bytes]]  # what is written: whole, or in parts that are made as they are written
@@ -101,31 +101,95 @@ def _mode(path: Path) -> int:
         return 0o666 & ~mask
 
 
-def replace(path: Path, data: Data, mode: Optional[int] = None) -> None:
-    """Writes a file beside and renames it, so that the old one stays until the new one is whole."""
+@contextlib.contextmanager
+def _beside(path: Path, data: Data, mode: Optional[int] = None) -> Iterator[str]:
+    """A whole new file beside another, which is still to be renamed. Where that fails it is removed."""
     descriptor, beside = tempfile.mkstemp(prefix=_BESIDE, dir=path.parent)
     try:
         _write_all(descriptor, data, to_disk=True)
         os.chmod(beside, _mode(path) if mode is None else mode)
-        os.replace(beside, path)
+        yield beside
     except BaseException:
         with contextlib.suppress(OSError):
             os.unlink(beside)
         raise
 
 
-def write(name: Optional[str], data: Data) -> None:
-    """To a file, or to standard output for None and `-`. A pipe or a device is written to as it is."""
+def replace(path: Path, data: Data, mode: Optional[int] = None) -> None:
+    """Writes a file beside and renames it, so that the old one stays until the new one is whole."""
+    with _beside(path, data, mode) as beside:
+        os.replace(beside, path)
+
+
+@contextlib.contextmanager
+def _in_place(beside: str, path: Path) -> Iterator[None]:
+    """A file beside another takes its place. Where what follows fails, the old one has its place again, or there is none again."""
+    old, new = beside + ".old", not path.exists()
+    with contextlib.suppress(OSError):  # a file system without second names keeps no old file, and the new one stays
+        os.link(path, old)
     try:
-        if name is None or name == "-":
-            _write_all(_standard(1), data)
-        # /dev/stdout may lead to a file that others write to as well, so it is not replaced.
-        elif name.startswith(_STREAMS) or os.path.exists(name) and not os.path.isfile(name):
-            _write_all(os.open(name, os.O_WRONLY | os.O_APPEND), data)
-        else:
-            replace(Path(os.path.realpath(name)), data)
+        os.replace(beside, path)
+        yield
+    except BaseException:
+        with contextlib.suppress(OSError):
+            if new:
+                os.unlink(path)
+            else:
+                os.replace(old, path)
+        raise
+    finally:
+        with contextlib.suppress(OSError):
+            os.unlink(old)
+
+
+def _is_file(name: Optional[str]) -> bool:
+    """Whether an output is a file to be replaced. /dev/stdout may lead to one that others write to as well, so it is not."""
+    return name not in (None, "-") and not name.startswith(_STREAMS) and (os.path.isfile(name) or not os.path.exists(name))
+
+
+def is_standard_output(name: Optional[str]) -> bool:
+    """Whether an output goes there, by whatever name."""
+    if name in (None, "-"):
+        return True
+    with contextlib.suppress(OSError):
+        return os.path.samestat(os.stat(name), os.fstat(1))
+    return False
+
+
+@contextlib.contextmanager
+def _writing(name: Optional[str]) -> Iterator[None]:
+    """Says which output failed."""
+    try:
+        yield
     except OSError as error:
         raise Failure.of("standard output" if name in (None, "-") else name, error) from None
+
+
+def _write_stream(name: Optional[str], data: Data) -> None:
+    _write_all(_standard(1) if name in (None, "-") else os.open(name, os.O_WRONLY | os.O_APPEND), data)
+
+
+def write(name: Optional[str], data: Data) -> None:
+    """To a file, or to standard output for None and `-`. A pipe or a device is written to as it is."""
+    write_together([(name, data)])
+
+
+def write_together(outputs: Sequence[Tuple[Optional[str], Data]]) -> None:
+    """The same for several outputs, all or none as far as it can be had: no file takes its place before all are whole, and where one
+    of them cannot, or a pipe or a device fails after that, the old ones have their places again."""
+    files = [(name, Path(os.path.realpath(name)), data) for name, data in outputs if _is_file(name)]
+    streams = [(name, data) for name, data in outputs if not _is_file(name)]
+    with contextlib.ExitStack() as stack:
+        waiting = []
+        for name, path, data in files:
+            with _writing(name):
+                waiting.append((name, path, stack.enter_context(_beside(path, data))))
+        for name, path, beside in waiting:
+            with _writing(name):
+                stack.enter_context(_in_place(beside, path))
+        for name, data in streams:
+            with _writing(name):
+                _write_stream(name, data)
 
 
 @contextlib.contextmanager

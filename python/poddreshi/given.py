@@ -3,6 +3,7 @@ from typing import List, NamedTuple, Sequence
 
 from .names import Names
 from .plans import Window, minimum_of
+from .replies import aligned
 from .times import Clock
 
 
@@ -26,6 +27,12 @@ class Given(NamedTuple):
         """A row of a table: the window, its name, begin and end."""
         window = self.windows[position]
         return [str(position), self.names[position], self.clock.show(window.offset), self.clock.show(window.end)]
+
+    def lines(self, positions: Sequence[int]) -> str:
+        """A line for each of these windows, where names or dates were asked for; otherwise none."""
+        if not positions or not (any(self.names) or self.clock.origin):
+            return ""
+        return aligned([self.shown(position) for position in positions], right=(0,))
 
     def data(self, position: int) -> dict:
         """The same for JSON."""

@@ -49,7 +49,7 @@ _FORMS = {"text": _Form(), "csv": _Form(csv_lines([_HEADER])), "json": _Form('{\
 class Answers:
     """The answers to pairs, in place of a Reply: a page is written before the next is asked about."""
 
-    refused, faults = False, ()  # a pair that is refused is no refusal of the page
+    refused, faults, files, aside = False, (), (), ()  # a pair that is refused is no refusal of the page
 
     def __init__(self, tags: bytes, pairs: Iterable[Pair], widths: Sequence[int]):
         self._tags, self._pairs, self._widths = tags, iter(pairs), widths

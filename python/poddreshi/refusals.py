@@ -2,6 +2,7 @@
 from typing import Dict, NamedTuple, Optional, Sequence
 
 from . import figures, oldplans
+from .plans import Window
 from .tagforms import LONG, TagForm
 from .wording import bytes_of, counted, ordinal
 
@@ -9,17 +10,19 @@ WORDS: Dict[int, str] = {
     1: "{the_plan} has {bytes}; a plan has at least {HEADER_LENGTH}",
     2: "{the_plan} is said to have {windows}; a plan has at most {WINDOWS_LIMIT:,}",
     3: "{the_plan} has {bytes}; with {windows} it has exactly {wanted:,}",
-    4: "window {position} of {the_plan} has length {length:,}; a length is at least the minimum handover, {minimum:,}",
-    5: "window {position} of {the_plan} ends at {end:,}; an end is at most {END_LIMIT:,}",
-    6: "window {position} of {the_plan} begins at {offset:,}, earlier than the window before it, at {before:,}",
+    4: "{the_window} has length {length:,}; a length is at least the minimum handover, {minimum:,}",
+    5: "{the_window} ends at {end:,}; an end is at most {END_LIMIT:,}",
+    6: "{the_window} begins at {offset:,}, earlier than the window before it, at {before:,}",
     7: "there is no window {at}: {holder}",
     8: "a table has too little room for what is to be written",
     9: "{the_tag} has {bytes}; {wanted}",
     10: "{the_tag} has {fields}; each is at most {FIELD_LIMIT:,}",
     11: "the first tag is of plan {plan} and the second of plan {other_plan}",
     12: "the two tags have component {component} and rank {rank} alike and differ elsewhere, so they are not both of one plan",
-    13: "window {position} of {the_plan} ends at {end:,} and the one before it at {end_before:,}; short tags need ends that never fall",
+    13: "{the_window} ends at {end:,} and the one before it at {end_before:,}; short tags need ends that never fall",
     14: "{the_plan} has a minimum handover of {minimum:,} minutes; a minimum is {MINIMUM_LEAST} to {MINIMUM_LIMIT:,}",
+    15: "{the_plan} has {windows}, and no plan has more; none can be added",
+    16: "{the_plan} has number {plan} already; a changed plan has another",
 }
 
 
@@ -31,6 +34,7 @@ class Asked(NamedTuple):
     tag_file: Optional[bytes] = None
     positions: Sequence[int] = ()
     form: TagForm = LONG  # of the tags
+    added: Optional[Window] = None  # the window that a change adds
 
 
 class Refused(Exception):
@@ -66,6 +70,8 @@ def _facts(input: int, position: int, asked: Asked) -> dict:
         facts.update(_tag_facts(asked.tags, input, asked.form))
     if input < len(asked.positions):
         facts["at"] = f"{asked.positions[input]:,}"
+    if asked.added is not None:
+        facts.update(the_window="the added window", length=asked.added.length, end=asked.added.end)
     return facts
 
 
@@ -81,10 +87,11 @@ def _holder(holder: str, count: int, thing: str) -> str:
 def _plan_facts(asked: Asked, input: int, position: int) -> dict:
     input = min(input, len(asked.plans) - 1)  # where the second of two positions is at fault there is one plan
     file = bytes(asked.plans[input])  # a view may lie in pieces
-    facts = {"the_plan": _which("plan", asked.plans, input), "bytes": bytes_of(file, figures.PLAN_LIMIT)}
+    the_plan = _which("plan", asked.plans, input)
+    facts = {"the_plan": the_plan, "the_window": f"window {position} of {the_plan}", "bytes": bytes_of(file, figures.PLAN_LIMIT)}
     facts["old"] = not oldplans.unlike(file)
     if len(file) >= figures.HEADER_LENGTH:
-        _, windows, facts["minimum"] = figures.HEADER.unpack_from(file)
+        facts["plan"], windows, facts["minimum"] = figures.HEADER.unpack_from(file)
         facts["windows"], facts["holder"] = counted(windows, "window"), _holder("the plan", windows, "window")
         facts["wanted"] = figures.HEADER_LENGTH + figures.WINDOW_LENGTH * windows
     start = figures.HEADER_LENGTH + figures.WINDOW_LENGTH * position

@@ -2,7 +2,7 @@
 import csv
 import io
 import json
-from typing import NamedTuple, Sequence
+from typing import NamedTuple, Optional, Sequence, Tuple
 
 
 class Reply(NamedTuple):
@@ -16,6 +16,8 @@ class Reply(NamedTuple):
     otherwise: bool = False  # it is "no chain" or "different"
     refused: bool = False  # it is itself a refusal
     faults: Sequence[str] = ()  # the words of parts that were refused
+    files: Sequence[Tuple[Optional[str], bytes]] = ()  # other outputs, which are there with the answer or not at all
+    aside: Sequence[str] = ()  # lines for standard error, where standard output has one of those
 
     def encoded(self, form: str) -> bytes:
         if self.content:

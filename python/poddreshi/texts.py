@@ -171,6 +171,11 @@ def minutes(word: str) -> int:
     return _fitting(times.length(word), "a minimum handover")
 
 
+def window(offset: str, length: str, clock: Clock) -> Window:
+    """A window from its two words."""
+    return Window(_fitting(clock.offset(offset), "an offset"), _fitting(times.length(length), "a length"))
+
+
 def _taken(row: Row, clock: Clock) -> Union[Entry, Minimum]:
     offset, length, name = row.cells
     if offset.lower() == "minimum":
@@ -180,8 +185,7 @@ def _taken(row: Row, clock: Clock) -> Union[Entry, Minimum]:
     if not offset or not length:
         hint = "; CSV begins with a line offset,length,name" if set(offset) & set(",;") else ""
         raise ValueError(f"a line has an offset and a length, and may have a name{hint}")
-    window = Window(_fitting(clock.offset(offset), "an offset"), _fitting(times.length(length), "a length"))
-    return Entry(row.line, window, clean(name))
+    return Entry(row.line, window(offset, length, clock), clean(name))
 
 
 def parse(data: bytes, clock: Clock) -> Tuple[List[Entry], Optional[Minimum], List[Fault]]:

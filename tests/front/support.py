@@ -1,5 +1,8 @@
 """What the tests of the front share. They run on a built checkout: ./poddreshi build, then tests/run."""
+import csv
 import ctypes
+import io
+import json
 import os
 import random
 import resource
@@ -35,6 +38,8 @@ SHORT_TAGS = bytes.fromhex(
     "0e00000002000300" "0e00000003000000" "0e00010000000100" "0e00010001000000"
 )
 BOLTING = (EXAMPLES / "bolting.plan").read_bytes()  # plan 21, with a minimum of 30
+PLAN_31 = EXAMPLES / "plan-31.plan"
+NAMED = ("--names", EXAMPLES / "year.txt", "--origin", "2026-01-01")
 LISTING_12 = "12 7 2\n0 0 0 0 5 4\n1 0 0 1 0 3\n2 0 0 1 3 2\n3 0 0 1 4 4\n4 2 0 2 2 1\n5 4 0 3 1 1\n6 6 1 0 0 0\n"
 
 
@@ -44,6 +49,19 @@ def built() -> Path:
 
 def plan(*windows, number=12, minimum=1) -> bytes:
     return poddreshi.pack(number, windows, minimum)
+
+
+# A plan that each question refuses, with the words of the refusal.
+REFUSED_PLANS = {
+    b"\x0c\0\0": "1: the plan has 3 bytes; a plan has at least 8",
+    b"\x0c\0\x01\x08\0\0\0\0": "2: the plan is said to have 2,049 windows; a plan has at most 2,048",
+    plan((0, 9), minimum=0)[:-1]: "14: the plan has a minimum handover of 0 minutes; a minimum is 1 to 86,400",
+    plan((0, 9))[:-1]: "3: the plan has 15 bytes; with 1 window it has exactly 16",
+    plan((5, 0), (6, 5)): "4: window 0 of the plan has length 0; a length is at least the minimum handover, 1",
+    plan((5, 5), (4, 0)): "4: window 1 of the plan has length 0; a length is at least the minimum handover, 1",
+    plan((9_999_999, 2)): "5: window 0 of the plan ends at 10,000,001; an end is at most 10,000,000",
+    plan((5, 5), (4, 5)): "6: window 1 of the plan begins at 4, earlier than the window before it, at 5",
+}
 
 
 def old_plan(*windows, number=12) -> bytes:
@@ -187,6 +205,21 @@ class Case(unittest.TestCase):
         self.assertIn(about, error)
         self.assertNotIn("Traceback", error)
         return error
+
+
+class Forms(Case):
+    """A test of what a command says of plan 12 and of the year's plan, in each form; `text` is the test's own."""
+
+    def setUp(self):
+        super().setUp()
+        self.plan = self.file("12.plan", PLAN_12)
+        self.year = self.file("year.plan", self.answers("plan", 40, EXAMPLES / "year.txt", "--origin", "2026-01-01"))
+
+    def data(self, *words, **options):
+        return json.loads(self.text(*words, "--json", **options))
+
+    def rows(self, *words, **options) -> list:
+        return list(csv.DictReader(io.StringIO(self.text(*words, "--csv", **options))))
 
 
 class OldFile(Case):

@@ -230,6 +230,13 @@ class Commands(Case):
             ("plan", 1, "-", "--minimum", 2**32),
             ("renew", "-", "--minimum", "1.5"),
             ("renew",),
+            ("add", self.plan, 13, 0),
+            ("add", self.plan, 65536, 0, 1),
+            ("add", self.plan, 13, 2**32, 1),
+            ("add", self.plan, 13, 0, 1, "--json"),
+            ("add", self.plan, 13, 0, 1, "--tags", "-"),
+            ("withdraw", self.plan, 13),
+            ("withdraw", self.plan, 13, "x"),
             ("chain", "-", 0, 1, "--names", "-"),
         ):
             error = self.fails(2, *words, about="poddreshi: ")
@@ -250,6 +257,7 @@ class Commands(Case):
             for words in (
                 *(("tags", "-"), ("chain", "-", 0, 1), ("draw", "-"), ("text", "-", "--json"), ("same", self.plan, "-")),
                 *(("renew", "-"), ("renew", "-", "--minimum", 3)),
+                *(("add", "-", 7, 5, 3), ("withdraw", "-", 7, 0), ("withdraw", self.plan, 7, 0, "--names", "-")),
                 *(("count", "-", 0, "--all"), ("explain", "-"), ("plan", 7, "-", "--sort"), ("chains", self.plan, "-", "--html")),
                 *(("chain", self.plan, 0, 1, "--names", "-"), ("chain", "-", 0, 1, "--names", names), ("list", "-", "--csv")),
                 *(("tags", "-", "--short"), ("count", "-", 0, "--all", "--short"), ("explain", "-", "--short")),

@@ -11,7 +11,7 @@ import unittest
 from array import array
 from ctypes.util import find_library
 
-from support import PLAN_12, PYTHON, ROOT, TAGS_12, plan, refusal
+from support import PLAN_12, PYTHON, ROOT, TAGS_12, line_plan, plan, refusal
 
 import poddreshi
 from poddreshi import figures, library
@@ -90,6 +90,8 @@ class Answers(unittest.TestCase):
             (10, 0, 0): (poddreshi.read, bytes.fromhex("0c000000000803000200")),
             (11, 1, 0): (poddreshi.pair, TAGS_12[:10], b"\x0d" + TAGS_12[1:10]),
             (12, 1, 0): (poddreshi.pair, TAGS_12[:10], TAGS_12[:9] + b"\x01"),
+            (15, 0, 0): (poddreshi.add, line_plan(), 13, 0, 1),
+            (16, 0, 0): (poddreshi.withdraw, PLAN_12, 12, 0),
         }
         self.assertEqual([refusal(*call) for call in asked.values()], list(asked))
         self.assertEqual(refusal(poddreshi.write, 12, 0, 2048, 0, 0), (10, 0, 0))
@@ -113,10 +115,11 @@ class Interface(unittest.TestCase):
         self.assertEqual(set(library.CALLS), set(found))
         lent = ("uint8_t", "uint16_t", "size_t", "struct poddreshi_query")
         sizes = {f"{kind} *": ctypes.c_void_p for kind in lent}
+        numbers = {"size_t": ctypes.c_size_t, "uint16_t": ctypes.c_uint16, "uint32_t": ctypes.c_uint32}
         for name, arguments in found.items():
             for declared, here in zip(re.split(r",\s*", arguments), library.CALLS[name]):
                 kind = re.sub(r"\w+$", "", declared.replace("const ", "")).strip()
-                wanted = sizes.get(kind, {"size_t": ctypes.c_size_t, "uint16_t": ctypes.c_uint16}.get(kind))
+                wanted = sizes.get(kind) or numbers[kind]
                 self.assertEqual(ctypes.sizeof(here), ctypes.sizeof(wanted), (name, declared))
             self.assertEqual(len(re.split(r",\s*", arguments)), len(library.CALLS[name]), name)
 
@@ -173,7 +176,7 @@ class Interface(unittest.TestCase):
         before = os.getcwd()
         os.chdir(ROOT)
         self.addCleanup(os.chdir, before)
-        self.assertEqual(doctest.testmod(poddreshi), (0, 11))
+        self.assertEqual(doctest.testmod(poddreshi), (0, 16))
 
 
 if __name__ == "__main__":

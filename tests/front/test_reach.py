@@ -1,8 +1,5 @@
 """Reach: from Python and C, and as the command says it of one window's component and of every component."""
-import csv
-import io
 import itertools
-import json
 import os
 import random
 import subprocess
@@ -10,24 +7,14 @@ import unittest
 from collections import Counter
 from unittest import mock
 
-from support import BOLTING, EVEN, EXAMPLES, PLAN_12, ROOT, Case, OldFile, at_most, line_plan, plan, random_windows, refusal
+from support import BOLTING, EVEN, NAMED, PLAN_12, PLAN_31, REFUSED_PLANS, ROOT, Case, Forms, OldFile, at_most, line_plan, plan
+from support import random_windows, refusal
 
 import poddreshi
 from poddreshi import commandline, library
 from poddreshi.commands import all_commands
 
 SHORT_SECOND = plan((0, 10), (1, 1), (5, 10), (6, 10))  # window 0 overlaps all, and window 1 overlaps window 0 alone
-PLAN_31 = EXAMPLES / "plan-31.plan"
-NAMED = ("--names", EXAMPLES / "year.txt", "--origin", "2026-01-01")
-REFUSED = {
-    b"\x0c\0\0": "1: the plan has 3 bytes; a plan has at least 8",
-    b"\x0c\0\x01\x08\0\0\0\0": "2: the plan is said to have 2,049 windows; a plan has at most 2,048",
-    plan((0, 9), minimum=0)[:-1]: "14: the plan has a minimum handover of 0 minutes; a minimum is 1 to 86,400",
-    plan((0, 9))[:-1]: "3: the plan has 15 bytes; with 1 window it has exactly 16",
-    plan((5, 5), (4, 0)): "4: window 1 of the plan has length 0; a length is at least the minimum handover, 1",
-    plan((9_999_999, 2)): "5: window 0 of the plan ends at 10,000,001; an end is at most 10,000,000",
-    plan((5, 5), (4, 5)): "6: window 1 of the plan begins at 4, earlier than the window before it, at 5",
-}
 
 
 def components(file: bytes) -> list:
@@ -88,7 +75,7 @@ class Package(unittest.TestCase):
             self.assertEqual(poddreshi.reach(kind(PLAN_12), 4), (3, 0, 5))
 
     def test_refusals(self):
-        for file, words in REFUSED.items():
+        for file, words in REFUSED_PLANS.items():
             for at in (0, 99):  # the plan's questions come before that of the position
                 with self.assertRaises(poddreshi.Refused) as caught:
                     poddreshi.reach(file, at)
@@ -123,20 +110,9 @@ class Header(Case):
         self.assertEqual(subprocess.run([program], stdout=subprocess.PIPE).stdout, b"2047 4660 65534")
 
 
-class Command(Case):
-    def setUp(self):
-        super().setUp()
-        self.plan = self.file("12.plan", PLAN_12)
-        self.year = self.file("year.plan", self.answers("plan", 40, EXAMPLES / "year.txt", "--origin", "2026-01-01"))
-
+class Command(Forms):
     def text(self, *words, **options) -> str:
         return self.answers("reach", *words, **options).decode()
-
-    def data(self, *words, **options):
-        return json.loads(self.text(*words, "--json", **options))
-
-    def rows(self, *words, **options) -> list:
-        return list(csv.DictReader(io.StringIO(self.text(*words, "--csv", **options))))
 
 
 class OneWindow(Command):
@@ -180,7 +156,7 @@ class OneWindow(Command):
         self.assertEqual((data["smaller"]["name"], data["larger"]["begin"]), ("North pier, generator", "2026-04-08 14:00"))
 
     def test_refusals(self):
-        for file, words in REFUSED.items():
+        for file, words in REFUSED_PLANS.items():
             for at in (0, 99):
                 self.says(1, f"refused by question {words}", "reach", "-", at, stdin=file)
         told = "refused by question 7: there is no window 7: the plan has 7 windows, 0 to 6"
@@ -290,7 +266,7 @@ class EachComponent(Command):
         self.assertEqual(Counter(call.args[0] for call in ask.call_args_list), {"validate": 1, "build": 1, "reach": 13})
 
     def test_refusals(self):
-        for file, words in REFUSED.items():
+        for file, words in REFUSED_PLANS.items():
             for form in ((), ("--csv",), ("--json",)):
                 self.says(1, f"refused by question {words}", "reach", "-", *form, stdin=file)
 

@@ -91,7 +91,10 @@ class Hint(Case):
         old_plan((86_401, 5)): "14: the plan has a minimum handover of 86,401 minutes; a minimum is 1 to 86,400",
         old_plan((5, 5)): "3: the plan has 12 bytes; with 1 window it has exactly 16",
     }
-    ASKING = (("tags",), ("tags", "--short"), ("chain", 0, 1), ("neighbours", 0), ("reach", 0), ("reach",), ("draw",), ("text",))
+    ASKING = (
+        *(("tags",), ("tags", "--short"), ("chain", 0, 1), ("neighbours", 0), ("reach", 0), ("reach",), ("draw",), ("text",)),
+        *(("add", 13, 0, 1), ("withdraw", 13, 0)),
+    )
 
     def test_each_question_and_command(self):
         for file, words in self.OLD.items():

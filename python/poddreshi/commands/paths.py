@@ -18,13 +18,6 @@ _REACH = (  # its three numbers, and then what is told of each of the two window
 )
 
 
-def _windows_text(plan: Given, positions: Sequence[int], bare: str) -> str:
-    """Positions on a line; where names or dates were asked for, a line for each window."""
-    if not positions or not (any(plan.names) or plan.clock.origin):
-        return bare
-    return aligned([plan.shown(position) for position in positions], right=(0,))
-
-
 @command(
     "chain",
     "a shortest chain between two windows, from the later to the earlier",
@@ -49,7 +42,7 @@ def _chain(args) -> Reply:
         "handovers": found.handovers.count,
         "chain": None if found.positions is None else [plan.data(position) for position in positions],
     }
-    text = _windows_text(plan, positions, str(found))
+    text = plan.lines(positions) or str(found)
     return Reply(text, ("step", *_COLUMNS), rows, data, otherwise=found.positions is None)
 
 
@@ -66,7 +59,7 @@ def _neighbours(args) -> Reply:
     found = calls.neighbours(plan.file, at)
     data = {"position": at, "neighbours": [plan.data(position) for position in found.positions]}
     rows = [plan.shown(position) for position in found.positions]
-    return Reply(_windows_text(plan, found.positions, str(found)), _COLUMNS, rows, data)
+    return Reply(plan.lines(found.positions) or str(found), _COLUMNS, rows, data)
 
 
 def _reach_row(plan: Given, found: calls.Reach) -> list:
@@ -117,7 +110,7 @@ def _reach(args) -> Reply:
     at = plan.names.position(args.position)
     found = calls.reach(plan.file, at)
     pair = sorted({found.smaller, found.larger})  # of a window alone, that window once
-    text = f"{found}\n{_windows_text(plan, pair, '')}"
+    text = f"{found}\n{plan.lines(pair)}"
     return Reply(text, ("position", *_REACH), [(at, *_reach_row(plan, found))], {"position": at, **_reach_data(plan, found)})
 
 
