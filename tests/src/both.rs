@@ -1,11 +1,11 @@
 //! One call put to both sides, the library and the oracle: what each answers, what the library leaves in everything lent, and
 //! what the oracle would have there.
 use crate::answers::{Answer, Record};
-use crate::calls::{self, Lent, Query, Tables};
+use crate::calls::{self, Buffers, Lent, Query, Tables};
 use crate::compare::Comparison;
 use crate::expected::{self, Owed};
 use crate::forms::Form;
-use crate::oracle::Columns;
+use crate::oracle::{Change, Changed, Columns};
 use std::fmt::{Arguments, Debug};
 
 /// Something lent, which can be held to what is to be written there.
@@ -26,6 +26,12 @@ impl<T: Copy + PartialEq + Debug> Holds<Vec<T>> for Lent<T> {
 
 impl Holds<Columns> for Tables {
     fn holds(&self, what: Arguments, written: &Columns) {
+        self.holds(what, written);
+    }
+}
+
+impl Holds<Changed> for Buffers {
+    fn holds(&self, what: Arguments, written: &Changed) {
         self.holds(what, written);
     }
 }
@@ -110,6 +116,16 @@ impl Comparison {
         let mut out = calls::bytes(room, &mut self.random);
         let library = calls::tags(form, file, &mut out);
         self.both(library, out, expected::tags(form, file, room))
+    }
+
+    /// The rooms are those for the changed plan and for its tag file. The plan that is changed stays as it was.
+    pub fn change(&mut self, file: &[u8], change: &Change, rooms: [usize; 2]) -> Both<Buffers, Changed> {
+        let (held, place) = self.placed(file);
+        let (before, file) = (held.clone(), &held[place]);
+        let mut lent = Buffers::new(rooms, &mut self.random);
+        let library = calls::change(file, change, &mut lent);
+        assert!(held == before, "a plan that was only to be read");
+        self.both(library, lent, expected::change(file, change, rooms))
     }
 
     pub fn reach(&mut self, file: &[u8], at: usize) -> Both<(), ()> {

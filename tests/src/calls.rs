@@ -2,7 +2,7 @@
 //! buffer of random content, of which all but the table's first entries must stay.
 use crate::answers::{Answer, Record, Refusal};
 use crate::forms::Form;
-use crate::oracle::Columns;
+use crate::oracle::{Change, Changed, Columns, What};
 use crate::random::Random;
 pub use interface::Query;
 use interface::*;
@@ -118,6 +118,34 @@ pub fn tags(form: Form, file: &[u8], out: &mut Lent<u8>) -> Answer {
         Form::Short => poddreshi_short_tags,
     };
     unpack(unsafe { call(file.as_ptr(), file.len(), out.pointer(), out.room) })
+}
+
+/// The two buffers of a change, for the changed plan and for its tag file.
+pub struct Buffers {
+    pub file: Lent<u8>,
+    pub tags: Lent<u8>,
+}
+
+impl Buffers {
+    pub fn new(rooms: [usize; 2], random: &mut Random) -> Buffers {
+        let [file, tags] = rooms.map(|room| bytes(room, random));
+        Buffers { file, tags }
+    }
+
+    pub fn holds(&self, what: impl Display, written: &Changed) {
+        self.file.holds(format_args!("{what}, the changed plan"), &written.file);
+        self.tags.holds(format_args!("{what}, its tags"), &written.tags);
+    }
+}
+
+pub fn change(file: &[u8], change: &Change, lent: &mut Buffers) -> Answer {
+    let (from, length, plan) = (file.as_ptr(), file.len(), change.plan);
+    let (to, room) = (lent.file.pointer(), lent.file.room);
+    let (tags, tag_room) = (lent.tags.pointer(), lent.tags.room);
+    unpack(match change.what {
+        What::Add(offset, minutes) => unsafe { poddreshi_add(from, length, plan, offset, minutes, to, room, tags, tag_room) },
+        What::Withdraw(at) => unsafe { poddreshi_withdraw(from, length, plan, at, to, room, tags, tag_room) },
+    })
 }
 
 pub fn reach(file: &[u8], at: usize) -> Answer {

@@ -65,7 +65,7 @@ impl Comparison {
         assert_eq!(held, before, "a file that was only to be read");
     }
 
-    fn some_room(&mut self) -> usize {
+    pub fn some_room(&mut self) -> usize {
         self.random.below(4) as usize
     }
 
@@ -92,6 +92,7 @@ impl Comparison {
         assert_eq!(calls::same(&good, file), second, "same, the second file");
         assert_eq!(calls::same(file, &good), refused, "same, the first file");
         self.calls += 11;
+        self.no_change(file, no);
     }
 
     fn accepted_file(&mut self, file: &[u8], plan: &Plan, depth: Depth) {
@@ -120,6 +121,7 @@ impl Comparison {
         }
         assert_eq!(calls::same(file, file), Answer::Same, "same as itself");
         self.calls += 2;
+        self.some_changes(file, plan);
     }
 
     /// Build into tables that may be longer than asked, all of them looked at.

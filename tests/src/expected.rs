@@ -2,7 +2,7 @@
 //! With an answer goes what is to stand at the front of each lent table; a refusal writes nothing.
 use crate::answers::{refusal, Answer, Record, Refusal};
 use crate::forms::Form;
-use crate::oracle::{self, Columns, Tree};
+use crate::oracle::{self, Change, Changed, Columns, Tree};
 
 pub type Owed<W> = Result<(Answer, W), Refusal>;
 
@@ -53,6 +53,18 @@ pub fn tags(form: Form, file: &[u8], room: usize) -> Owed<Vec<u8>> {
     let tree = Tree::of(&plan);
     has_room(room, form.bytes() * tree.n)?;
     Ok((tree.built(), tree.tag_file(form)))
+}
+
+/// The rooms are those for the changed plan and for its tag file, and both are asked for as many windows as it has.
+pub fn change(file: &[u8], change: &Change, rooms: [usize; 2]) -> Owed<Changed> {
+    let plan = oracle::read_plan(file, 0)?;
+    oracle::may_change(&plan, change)?;
+    let plan = oracle::changed(&plan, change);
+    let file = plan.file();
+    has_room(rooms[0], file.len())?;
+    has_room(rooms[1], 10 * plan.windows.len())?;
+    let tree = Tree::of(&plan);
+    Ok((tree.built(), Changed { file, tags: tree.tag_file(Form::Long) }))
 }
 
 pub fn reach(file: &[u8], at: usize) -> Owed<()> {

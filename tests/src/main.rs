@@ -8,6 +8,7 @@
 mod answers;
 mod both;
 mod calls;
+mod changes;
 mod compare;
 mod expected;
 mod forms;
@@ -25,8 +26,8 @@ use answers::{refusal, Answer};
 use compare::{Comparison, Depth};
 use forms::{Form, FORMS};
 use random::Random;
-use shapes::{between_others, evened, file_of, greatest_minimum, lengthened, linked, nearly_even, old_file_of, patterns, plain};
-use shapes::{windows, with_minimum, SHAPES};
+use shapes::{between_others, evened, file_of, greatest_minimum, in_few_minutes, lengthened, linked, nearly_even, old_file_of, patterns};
+use shapes::{plain, windows, with_minimum, SHAPES};
 use std::sync::Mutex;
 use std::time::Instant;
 
@@ -111,6 +112,11 @@ fn every_refusal(run: &mut Run) {
     run.case("a page of faulty tags", &mut pages::faulty_tags);
     run.case("tag files of pages", &mut pages::tag_files);
     run.case("a page of many records", &mut pages::many_records);
+    run.case("all that is wrong with a change", &mut changes::all_at_once);
+    run.case("changes of faulty plans of 2,048 windows", &mut changes::plan_first);
+    run.case("rooms of a change", &mut changes::rooms);
+    run.case("plan numbers of a change", &mut changes::plan_numbers);
+    run.case("windows to add at every edge", &mut changes::edges);
     run.report("refusals");
 }
 
@@ -318,6 +324,35 @@ fn linked_plan(comparison: &mut Comparison, n: usize, depth: Depth) {
     comparison.file(&file, depth);
 }
 
+/// Every change of few windows, by overlap patterns and by plans in which windows begin together; plans that are changed again and again;
+/// and plans of 2,047 windows that become one of 2,048.
+fn changed_plans(run: &mut Run) {
+    for n in 0..=run.times(6, 7) as usize {
+        for lasts in patterns(n) {
+            run.case("changes of a pattern", &mut |comparison| changes::pattern(comparison, &lasts));
+        }
+    }
+    for n in 1..=run.times(3, 4) as usize {
+        for windows in in_few_minutes(n) {
+            run.case("changes in few minutes", &mut |comparison| changes::every_change(comparison, &file_of(12, 1, &windows)));
+        }
+    }
+    for turn in 0..run.times(200, 5_000) {
+        run.case("changed again and again", &mut |comparison| changes::again_and_again(comparison, turn as usize % 100));
+    }
+    for _ in 0..run.times(1, 10) {
+        for shape in SHAPES {
+            run.case(&format!("{shape:?}, changed at the limit"), &mut |comparison| {
+                let random = &mut comparison.random;
+                let (minimum, plan) = with_minimum(windows(shape, 2047, random), random);
+                let file = file_of(random.next() as u16, minimum, &plan);
+                changes::up_to_the_limit(comparison, &file);
+            });
+        }
+    }
+    run.report("changed plans");
+}
+
 const NUMBERS: [u32; 16] = [
     0, 1, 2, 9, 255, 256, 65_535, 65_536, 86_400, 86_401, 9_999_999, 10_000_000, 10_000_001, 1 << 31, u32::MAX - 1, u32::MAX,
 ];
@@ -478,6 +513,7 @@ fn main() {
     large_plans(&mut run);
     large_even_plans(&mut run);
     linked_plans(&mut run);
+    changed_plans(&mut run);
     damaged_files(&mut run);
     any_tags(&mut run);
     any_pages(&mut run);

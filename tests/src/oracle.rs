@@ -1,8 +1,9 @@
 //! What the papers say, by brute force: windows as sets of minutes, overlap as a count of the minutes that both sets have, least
-//! numbers of handovers by breadth-first search, reach as the greatest of them all, post-order by recursion. Nothing here is taken from
-//! the library: where it has a formula, this has a search.
+//! numbers of handovers by breadth-first search, reach as the greatest of them all, post-order by recursion, a changed plan as one whose
+//! windows are sorted anew. Nothing here is taken from the library: where it has a formula, this has a search.
 use crate::answers::{refusal, Answer, Refusal};
 use crate::forms::Form;
+use crate::shapes::file_of;
 
 fn number(bytes: &[u8]) -> u64 {
     bytes.iter().rev().fold(0, |high, &byte| high * 256 + byte as u64)
@@ -13,6 +14,13 @@ pub struct Plan {
     /// The minimum handover, in minutes.
     pub minimum: u64,
     pub windows: Vec<(u64, u64)>,
+}
+
+impl Plan {
+    pub fn file(&self) -> Vec<u8> {
+        let windows: Vec<(u32, u32)> = self.windows.iter().map(|&(offset, length)| (offset as u32, length as u32)).collect();
+        file_of(self.number, self.minimum as u32, &windows)
+    }
 }
 
 /// Questions 1, 2, 14 and 3, and then 4 to 6, window after window.
@@ -53,6 +61,62 @@ pub fn is_even(plan: &Plan) -> Result<(), Refusal> {
         Some(v) => Err(refusal(13, 0, v)),
         None => Ok(()),
     }
+}
+
+/// Paper 02, Q-6: "A change is a record: the new plan number and what is to be done, which is either a window to add (offset and
+/// length) or a position to withdraw."
+#[derive(Clone, Copy, PartialEq, Debug)]
+pub struct Change {
+    pub plan: u16,
+    pub what: What,
+}
+
+#[derive(Clone, Copy, PartialEq, Debug)]
+pub enum What {
+    Add(u32, u32),
+    Withdraw(usize),
+}
+
+/// What a change writes.
+#[derive(Default, PartialEq, Debug)]
+pub struct Changed {
+    pub file: Vec<u8>,
+    pub tags: Vec<u8>,
+}
+
+/// "15, an addition to 2,048 windows, after the plan's checks; 16, a new plan number equal to the old, after 15." "The window's own 4
+/// and 5 come after 16 and carry position 0, after which 7 and 8 apply." Question 8 is not among these.
+pub fn may_change(plan: &Plan, change: &Change) -> Result<(), Refusal> {
+    let n = plan.windows.len();
+    let new_number = (16, change.plan != plan.number);
+    let asked = match change.what {
+        What::Add(offset, length) => {
+            let (offset, length) = (offset as u64, length as u64);
+            vec![(15, n != 2048), new_number, (4, length >= plan.minimum), (5, offset + length <= 10_000_000)]
+        }
+        What::Withdraw(at) => vec![new_number, (7, (0..n).contains(&at))],
+    };
+    match asked.into_iter().find(|&(_, yes)| !yes) {
+        Some((question, _)) => Err(refusal(question, 0, 0)),
+        None => Ok(()),
+    }
+}
+
+/// "an added window goes behind all with the same or a smaller offset": it is put behind all, and then all are sorted by their offsets,
+/// equal ones staying in their order.
+pub fn changed(plan: &Plan, change: &Change) -> Plan {
+    let mut windows = plan.windows.clone();
+    match change.what {
+        What::Add(offset, length) => {
+            windows.push((offset as u64, length as u64));
+            windows.sort_by_key(|window| window.0);
+        }
+        What::Withdraw(at) => {
+            let others = windows.into_iter().enumerate().filter(|&(position, _)| position != at);
+            windows = others.map(|(_, window)| window).collect();
+        }
+    }
+    Plan { number: change.plan, minimum: plan.minimum, windows }
 }
 
 /// Which bits of a word are set.

@@ -1,12 +1,12 @@
 //! Every case of paper 01 by name, put to the library and to the oracle: both must have the paper's number, and leave every
 //! lent byte alike. The numbers stand as the paper prints them and none is computed; the few that it does not print follow from
 //! its words: a chain of two windows, the components of a plan of one window, plan 12 twice; and from those of paper 02: the short
-//! tags of plan 12 made even (Q-1), what becomes of two and three windows as the minimum rises (Q-2), pages of plan 12 (Q-4), and reaches
-//! of few windows, found by hand (Q-5).
+//! tags of plan 12 made even (Q-1), what becomes of two and three windows as the minimum rises (Q-2), pages of plan 12 (Q-4), and, found
+//! by hand, reaches of few windows (Q-5) and plans that are changed (Q-6).
 use crate::answers::{refusal, Answer, Refusal};
 use crate::compare::Comparison;
 use crate::forms::Form;
-use crate::oracle::{tag_bytes, Columns};
+use crate::oracle::{tag_bytes, Change, Changed, Columns, What};
 use crate::pages;
 use crate::refusals::every_call_refuses;
 use crate::shapes::{file_of, old_file_of, windows_in};
@@ -78,6 +78,10 @@ enum Says {
     Neighbours(usize, &'static [u16]),
     /// Of each two positions, what a page says, and that a tag file of wrong length refuses it.
     Page(&'static [(usize, usize, Answer)]),
+    /// A change makes a plan of these windows of it, which has this listing.
+    Becomes(Change, &'static [(u32, u32)], &'static str),
+    /// A change is refused by this question.
+    Stays(Change, u16),
 }
 
 pub struct Case {
@@ -98,7 +102,8 @@ fn by(minimum: u32, name: &'static str, windows: &[(u32, u32)], says: Says) -> C
 pub fn cases() -> Vec<Case> {
     let paper_01 = [worked(), edges(), long_inputs(), traps()];
     let paper_02 = [short_tags(), minimums(), rising_minimums(), minimums_refused(), pages_of_pairs(), reaches()];
-    paper_01.into_iter().chain(paper_02).flatten().collect()
+    let changes = [added(), withdrawn(), changes_refused()];
+    paper_01.into_iter().chain(paper_02).chain(changes).flatten().collect()
 }
 
 fn worked() -> Vec<Case> {
@@ -390,6 +395,143 @@ fn reaches() -> Vec<Case> {
     ]
 }
 
+/// The window to add, and the number of the plan then.
+fn adds(offset: u32, length: u32, plan: u16) -> Change {
+    Change { plan, what: What::Add(offset, length) }
+}
+
+fn withdraws(at: usize, plan: u16) -> Change {
+    Change { plan, what: What::Withdraw(at) }
+}
+
+/// Plan 12 with (17, 3) behind (17, 1), which begins with it: it overlaps the window at 12, that at 17 and that at 18, so that what were
+/// two components are one.
+const PLAN_12_JOINED: [(u32, u32); 8] = [(0, 10), (2, 3), (4, 12), (9, 2), (12, 6), (17, 1), (17, 3), (18, 4)];
+
+const LISTING_JOINED: &str = "\
+13 8 1
+0 0 0 0 7 6
+1 0 0 1 0 5
+2 0 0 1 5 4
+3 0 0 1 6 6
+4 2 0 2 4 3
+5 4 0 3 1 3
+6 4 0 3 3 2
+7 6 0 4 2 2
+";
+
+/// Plan 12 with (30, 5) behind all: the tags of before but for the plan number, and one more.
+const PLAN_12_LONGER: [(u32, u32); 8] = [(0, 10), (2, 3), (4, 12), (9, 2), (12, 6), (17, 1), (18, 4), (30, 5)];
+
+const LISTING_LONGER: &str = "\
+13 8 3
+0 0 0 0 5 4
+1 0 0 1 0 3
+2 0 0 1 3 2
+3 0 0 1 4 4
+4 2 0 2 2 1
+5 4 0 3 1 1
+6 6 1 0 0 0
+7 7 2 0 0 0
+";
+
+/// Paper 02, Q-6: "an added window goes behind all with the same or a smaller offset."
+fn added() -> Vec<Case> {
+    const LATE: [(u32, u32); 2] = [(0, 10), (9_999_999, 1)];
+    let one = "13 1 1\n0 0 0 0 0 0\n";
+    let apart = "13 2 2\n0 0 0 0 0 0\n1 1 1 0 0 0\n";
+    let joined = "13 2 1\n0 0 0 0 1 0\n1 0 0 1 0 0\n";
+    let in_line = "13 3 1\n0 0 0 0 2 1\n1 0 0 1 1 0\n2 1 0 2 0 0\n";
+    let third_alone = "13 3 2\n0 0 0 0 1 0\n1 0 0 1 0 0\n2 2 1 0 0 0\n";
+    let by_5 = |name, change, windows, says| by(5, name, &TWO, Becomes(change, windows, says));
+    vec![
+        case("(17, 3) to plan 12, behind (17, 1)", &PLAN_12, Becomes(adds(17, 3, 13), &PLAN_12_JOINED, LISTING_JOINED)),
+        case("(30, 5) to plan 12, behind all", &PLAN_12, Becomes(adds(30, 5, 13), &PLAN_12_LONGER, LISTING_LONGER)),
+        case("a window to the plan with none", &[], Becomes(adds(5, 5, 13), &[(5, 5)], one)),
+        case("before all", &[(5, 5)], Becomes(adds(4, 1, 13), &[(4, 1), (5, 5)], apart)),
+        case("before all, with a minute in common", &[(5, 5)], Becomes(adds(4, 2, 13), &[(4, 2), (5, 5)], joined)),
+        case("behind the window that begins with it", &[(5, 5)], Becomes(adds(5, 1, 13), &[(5, 5), (5, 1)], joined)),
+        case("a longer one behind a shorter that begins with it", &[(5, 1)], Becomes(adds(5, 9, 13), &[(5, 1), (5, 9)], joined)),
+        case("where the other ends", &[(5, 5)], Becomes(adds(10, 1, 13), &[(5, 5), (10, 1)], apart)),
+        case("between two", &[(0, 3), (5, 5)], Becomes(adds(2, 4, 13), &[(0, 3), (2, 4), (5, 5)], in_line)),
+        case("sum 10,000,000 passes", &[(0, 10)], Becomes(adds(9_999_999, 1, 13), &LATE, apart)),
+        by_5("by minimum 5, 5 minutes are enough", adds(10, 5, 13), &[(0, 10), (5, 10), (10, 5)], in_line),
+        by_5("by minimum 5, a minute less is shared", adds(11, 5, 13), &[(0, 10), (5, 10), (11, 5)], third_alone),
+    ]
+}
+
+/// Plan 12 without the window at 12, which joined the one at 17 to the others.
+const PLAN_12_PARTED: [(u32, u32); 6] = [(0, 10), (2, 3), (4, 12), (9, 2), (17, 1), (18, 4)];
+
+const LISTING_PARTED: &str = "\
+13 6 3
+0 0 0 0 3 2
+1 0 0 1 0 1
+2 0 0 1 1 2
+3 0 0 1 2 2
+4 4 1 0 0 0
+5 5 2 0 0 0
+";
+
+/// Plan 12 without its last window: the tags of before but for the plan number.
+const PLAN_12_SHORTER: [(u32, u32); 6] = [(0, 10), (2, 3), (4, 12), (9, 2), (12, 6), (17, 1)];
+
+const LISTING_SHORTER: &str = "\
+13 6 1
+0 0 0 0 5 4
+1 0 0 1 0 3
+2 0 0 1 3 2
+3 0 0 1 4 4
+4 2 0 2 2 1
+5 4 0 3 1 1
+";
+
+/// Q-6: "a position to withdraw".
+fn withdrawn() -> Vec<Case> {
+    let one = "65535 1 1\n0 0 0 0 0 0\n";
+    let alone = "0 2 2\n0 0 0 0 0 0\n1 1 1 0 0 0\n";
+    let joined = "13 2 1\n0 0 0 0 1 0\n1 0 0 1 0 0\n";
+    let without_1 = |minimum, name, says| by(minimum, name, &THREE, Becomes(withdraws(1, 0), &[(0, 10), (9, 10)], says));
+    vec![
+        case("position 4 of plan 12", &PLAN_12, Becomes(withdraws(4, 13), &PLAN_12_PARTED, LISTING_PARTED)),
+        case("position 6 of plan 12, the last", &PLAN_12, Becomes(withdraws(6, 13), &PLAN_12_SHORTER, LISTING_SHORTER)),
+        case("the only window", &[(5, 5)], Becomes(withdraws(0, 13), &[], "13 0 0\n")),
+        case("the first of two", &[(0, 10), (5, 10)], Becomes(withdraws(0, 65_535), &[(5, 10)], one)),
+        case("the first of two that begin together", &[(5, 1), (5, 9)], Becomes(withdraws(0, 65_535), &[(5, 9)], one)),
+        case("the second of two that begin together", &[(5, 1), (5, 9)], Becomes(withdraws(1, 65_535), &[(5, 1)], one)),
+        case("the last of three, minimum 1", &THREE, Becomes(withdraws(2, 13), &[(0, 10), (4, 10)], joined)),
+        without_1(2, "of three in line the one between, minimum 2", alone),
+        without_1(5, "of three in line the one between, minimum 5", alone),
+    ]
+}
+
+/// Q-6: "15, an addition to 2,048 windows, after the plan's checks; 16, a new plan number equal to the old, after 15." "The window's own 4
+/// and 5 come after 16 and carry position 0, after which 7 and 8 apply."
+fn changes_refused() -> Vec<Case> {
+    let plan_12 = |name, change, number| case(name, &PLAN_12, Stays(change, number));
+    let full = |name, change, number| case(name, &vec![(0, 1); 2048], Stays(change, number));
+    vec![
+        full("an addition to 2,048 windows is 15", adds(0, 1, 13), 15),
+        full("an addition to 2,048 windows, and the old plan number: 15", adds(0, 1, 12), 15),
+        full("an addition to 2,048 windows, and a window of length 0: 15", adds(0, 0, 13), 15),
+        full("a withdrawal of 2,048 windows with the old plan number is 16", withdraws(0, 12), 16),
+        plan_12("the old plan number is 16", adds(17, 3, 12), 16),
+        plan_12("the old plan number, and a window of length 0: 16", adds(17, 0, 12), 16),
+        plan_12("the old plan number, and a sum of 10,000,001: 16", adds(10_000_000, 1, 12), 16),
+        plan_12("the old plan number is 16 where a window is withdrawn", withdraws(4, 12), 16),
+        plan_12("the old plan number, and position 7: 16", withdraws(7, 12), 16),
+        plan_12("a window of length 0 is 4", adds(17, 0, 13), 4),
+        plan_12("a window of length 0 behind all is 4", adds(10_000_001, 0, 13), 4),
+        plan_12("a sum of 10,000,001 is 5", adds(10_000_000, 1, 13), 5),
+        plan_12("4,294,967,295 twice is 5", adds(4_294_967_295, 4_294_967_295, 13), 5),
+        plan_12("(4,294,967,295, 6) is 5", adds(4_294_967_295, 6, 13), 5),
+        plan_12("position 7 of plan 12 is 7", withdraws(7, 13), 7),
+        case("position 0 of the plan with no window is 7", &[], Stays(withdraws(0, 13), 7)),
+        by(5, "4 minutes, minimum 5: 4", &TWO, Stays(adds(7, 4, 13), 4)),
+        by(86_400, "86,399 minutes to the plan with no window, minimum 86,400: 4", &[], Stays(adds(0, 86_399, 13), 4)),
+    ]
+}
+
 impl Case {
     /// How the listing program's text begins, as far as the case says it.
     pub fn printed(&self) -> String {
@@ -404,7 +546,9 @@ impl Case {
     pub fn hold(&self, comparison: &mut Comparison) {
         let file = &self.file.clone();
         match self.says {
-            Lists(listing) => lists(comparison, file, listing),
+            Lists(listing) => {
+                lists(comparison, file, listing);
+            }
             Begins(plan, windows, components) => begins(comparison, file, [plan, windows, components]),
             Handovers(u, v, count, chain) => handovers(comparison, file, (u, v), count, chain),
             NoChain(u, v) => no_chain(comparison, file, (u, v)),
@@ -419,6 +563,8 @@ impl Case {
             Different(minimum, windows) => sameness(comparison, file, &file_of(13, minimum, windows), Answer::Different),
             Neighbours(at, near) => neighbours(comparison, file, at, near),
             Page(due) => page(comparison, file, due),
+            Becomes(ref change, windows, listing) => becomes(comparison, file, change, windows, listing),
+            Stays(ref change, number) => comparison.refuses_change(file, change, number),
         }
         assert_eq!(file, &self.file, "a file that was only to be read");
     }
@@ -437,7 +583,8 @@ fn begins(comparison: &mut Comparison, file: &[u8], line: [u16; 3]) {
     }
 }
 
-fn lists(comparison: &mut Comparison, file: &[u8], listing: &str) {
+/// Hands back the tag file that the listing says.
+fn lists(comparison: &mut Comparison, file: &[u8], listing: &str) -> Vec<u8> {
     let mut rows = listing.lines().map(|line| line.split(' ').map(|word| word.parse().unwrap()).collect::<Vec<u16>>());
     let line: [u16; 3] = rows.next().unwrap().try_into().unwrap();
     begins(comparison, file, line);
@@ -462,6 +609,7 @@ fn lists(comparison: &mut Comparison, file: &[u8], listing: &str) {
         let found = comparison.lookup(&paper.tags, position);
         found.are(format_args!("lookup of {position}"), Answer::Found, &Some(10 * position));
     }
+    paper.tags
 }
 
 /// What both sides write of a plan.
@@ -564,4 +712,21 @@ fn page(comparison: &mut Comparison, file: &[u8], due: &[(usize, usize, Answer)]
         let both = comparison.page(&[&tags[..], &vec![0; more]].concat(), &asked);
         both.are(format_args!("page, {more} bytes too many"), Answer::Refused(refusal(9, 0, 0)), &vec![]);
     }
+}
+
+/// The changed plan has these windows by the minimum of before, and is as any plan with this listing.
+fn becomes(comparison: &mut Comparison, file: &[u8], change: &Change, windows: &[(u32, u32)], listing: &str) {
+    let minimum = u32::from_le_bytes(file[4..8].try_into().unwrap());
+    let paper = file_of(change.plan, minimum, windows);
+    let changed = Changed { tags: lists(comparison, &paper, listing), file: paper };
+    let components = listing.lines().next().unwrap().split(' ').nth(2).unwrap().parse().unwrap();
+    let answer = Answer::Built { plan: change.plan, windows: windows.len() as u16, components };
+    let fits = [changed.file.len(), changed.tags.len()];
+    for more in MORE {
+        let both = comparison.change(file, change, fits.map(|room| room + more));
+        both.are(format_args!("{change:?}"), answer, &changed);
+    }
+    let short = comparison.change(file, change, [fits[0] - 1, fits[1]]);
+    short.are(format_args!("{change:?}, a byte too short"), Answer::Refused(refusal(8, 0, 0)), &Changed::default());
+    comparison.one_change(file, change);
 }

@@ -3,7 +3,7 @@
 use crate::answers::{refusal, Answer};
 use crate::compare::{Comparison, Depth};
 use crate::forms::{Form, FORMS};
-use crate::oracle::{tag_bytes, Columns};
+use crate::oracle::{tag_bytes, Change, Changed, Columns, What};
 use crate::paper::{PLAN_12, PLAN_12_EVEN};
 use crate::shapes::{file_of, lengthened, old_file_of, windows_in};
 
@@ -135,6 +135,13 @@ pub fn every_call_refuses(comparison: &mut Comparison, file: &[u8], number: u16,
         comparison.chain(file, at, 0, room).are(format_args!("chain"), first, &vec![]);
         comparison.chain(file, 0, at, room).are(format_args!("chain"), first, &vec![]);
     }
+    // By the number of plan 12, which question 16 would refuse, and by another.
+    for (plan, room, at) in [(12, 0, 0), (13, 0, usize::MAX), (13, 2053, 0)] {
+        for what in [What::Add(0, 0), What::Add(0, 86_400), What::Withdraw(at)] {
+            let both = comparison.change(file, &Change { plan, what }, [8 + 8 * room, 10 * room]);
+            both.are(format_args!("{what:?}, to be plan {plan}"), first, &Changed::default());
+        }
+    }
     let accepted = file_of(12, 1, &PLAN_12);
     comparison.same(file, &accepted).are(format_args!("same, the first file"), first, &());
     comparison.same(&accepted, file).are(format_args!("same, the second file"), second, &());
@@ -222,7 +229,7 @@ pub fn falling_ends(comparison: &mut Comparison) {
 
 /// Accepted plans: none, one, two that touch, two that overlap, plan 12, the same made even, and the same by a minimum of 5; two that
 /// share 5 minutes, by 5 and by 6.
-fn sound_plans() -> Vec<Vec<u8>> {
+pub fn sound_plans() -> Vec<Vec<u8>> {
     let two = [(0, 10), (5, 10)];
     let plans: [(u32, &[(u32, u32)]); 9] = [
         (1, &[]),

@@ -2,7 +2,7 @@
 use crate::random::Random;
 
 /// The latest end that a window may have.
-const LATEST: u32 = 10_000_000;
+pub const LATEST: u32 = 10_000_000;
 
 pub fn file_of(plan: u16, minimum: u32, windows: &[(u32, u32)]) -> Vec<u8> {
     let mut file = plan.to_le_bytes().to_vec();
@@ -32,6 +32,20 @@ pub fn patterns(n: usize) -> Vec<Vec<usize>> {
     let mut all: Vec<Vec<usize>> = vec![Vec::new()];
     for u in 0..n {
         let longer = |lasts: &Vec<usize>| (u..n).map(|last| [&lasts[..], &[last]].concat()).collect::<Vec<_>>();
+        all = all.iter().flat_map(longer).collect();
+    }
+    all
+}
+
+/// Every plan of n windows that begin at minutes 1 to 3 and last 1 to 3 minutes: many begin together.
+pub fn in_few_minutes(n: usize) -> Vec<Vec<(u32, u32)>> {
+    let mut all: Vec<Vec<(u32, u32)>> = vec![Vec::new()];
+    for _ in 0..n {
+        let longer = |windows: &Vec<(u32, u32)>| {
+            let offsets = windows.last().map_or(1, |last| last.0)..=3;
+            let next = offsets.flat_map(|offset| (1..=3).map(move |length| (offset, length)));
+            next.map(|window| [&windows[..], &[window]].concat()).collect::<Vec<_>>()
+        };
         all = all.iter().flat_map(longer).collect();
     }
     all
