@@ -108,3 +108,10 @@ class Library:
 
     def same(self, first, second):
         return self.ask("same", first, second)[0] == SAME
+
+    def add(self, file, number, offset, length, changed, tags):
+        window = ctypes.c_uint32(offset), ctypes.c_uint32(length)
+        return tuple(self.ask("add", file, ctypes.c_uint16(number), *window, changed, tags)[1])
+
+    def withdraw(self, file, number, at, changed, tags):
+        return tuple(self.ask("withdraw", file, ctypes.c_uint16(number), WORD(at), changed, tags)[1])

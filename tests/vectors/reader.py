@@ -27,6 +27,9 @@ class Reader:
     def two_bytes(self, number):
         return number.to_bytes(2, "little")
 
+    def four_bytes(self, number):
+        return number.to_bytes(4, "little")
+
     # The questions, each with its yes or no, and the refusal that a "no" gives.
 
     def question_1(self, file):
@@ -74,6 +77,12 @@ class Reader:
     def question_14(self, minimum):
         return 1 <= minimum <= 86_400
 
+    def question_15(self, windows):
+        return windows < 2048
+
+    def question_16(self, number, old):
+        return number != old
+
     def ask(self, yes, number, input=0, position=0):
         if not yes:
             raise Refused(number, input, position)
@@ -98,6 +107,9 @@ class Reader:
         (number, windows), minimum = self.header(file), self.minimum(file)
         pairs = [self.window(file, position) for position in range(windows)]
         self.ask_windows(pairs, minimum, input)
+        return self.plan_of(number, minimum, pairs)
+
+    def plan_of(self, number, minimum, pairs):
         return Plan(number, minimum, [o for o, _ in pairs], [l for _, l in pairs], [self.end(o, l) for o, l in pairs])
 
     def ask_file(self, file, input):
@@ -350,6 +362,54 @@ class Reader:
         beside = self.beside(plan)
         return self.greatest(self.counts(beside, self.members(beside, at)))
 
+    # A change.
+
+    def ask_addition(self, plan, number, offset, length):
+        self.ask(self.question_15(len(plan.offsets)), 15)
+        self.ask(self.question_16(number, plan.number), 16)
+        self.ask_added(plan, offset, length)
+
+    def ask_added(self, plan, offset, length):
+        """The questions of the window to be added, which has no position yet."""
+        self.ask(self.question_4(length, plan.minimum), 4)
+        self.ask(self.question_5(offset, length), 5)
+
+    def ask_withdrawal(self, plan, number, at):
+        self.ask(self.question_16(number, plan.number), 16)
+        self.ask(self.question_7(at, len(plan.offsets)), 7)
+
+    def place(self, plan, offset):
+        """Behind all windows with the same or a smaller offset."""
+        return sum(other <= offset for other in plan.offsets)
+
+    def with_window(self, plan, offset, length):
+        at, pairs = self.place(plan, offset), self.pairs(plan)
+        return pairs[:at] + [(offset, length)] + pairs[at:]
+
+    def without_window(self, plan, at):
+        pairs = self.pairs(plan)
+        return pairs[:at] + pairs[at + 1 :]
+
+    def pairs(self, plan):
+        return list(zip(plan.offsets, plan.lengths))
+
+    def plan_file(self, plan):
+        header = self.two_bytes(plan.number) + self.two_bytes(len(plan.offsets)) + self.four_bytes(plan.minimum)
+        return header + b"".join(self.four_bytes(number) for pair in self.pairs(plan) for number in pair)
+
+    def ask_change_room(self, windows, changed, tags):
+        self.ask_room(changed, 8 + 8 * windows)
+        self.ask_room(tags, 10 * windows)
+
+    def change(self, old, number, pairs, changed, tags):
+        """The plan of these windows with the new number, and the minimum of the old one, written with its tags."""
+        self.ask_change_room(len(pairs), changed, tags)
+        plan = self.plan_of(number, old.minimum, pairs)
+        tree = self.tree(plan)
+        self.fill(changed, self.plan_file(plan))
+        self.fill(tags, self.tag_file(plan, tree))
+        return plan.number, len(pairs), self.components(tree)
+
     # The calls.
 
     def fill(self, table, entries):
@@ -451,6 +511,16 @@ class Reader:
             return False
         pairs = ((u, v) for v in range(windows) for u in range(v))
         return all(self.overlap(first, u, v) == self.overlap(second, u, v) for u, v in pairs)
+
+    def add(self, file, number, offset, length, changed, tags):
+        plan = self.read_plan(file)
+        self.ask_addition(plan, number, offset, length)
+        return self.change(plan, number, self.with_window(plan, offset, length), changed, tags)
+
+    def withdraw(self, file, number, at, changed, tags):
+        plan = self.read_plan(file)
+        self.ask_withdrawal(plan, number, at)
+        return self.change(plan, number, self.without_window(plan, at), changed, tags)
 
     def short_tags(self, file, tags):
         plan = self.read_plan(file)

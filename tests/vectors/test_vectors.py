@@ -17,11 +17,11 @@ from library import Library
 from reader import Reader, Refused
 from vectors import CALLS, DOCS, FOLDER, Malformed, all_vectors, bytes_of_rows, parse_file, parse_vector, passes, said
 from vectors import without_comment, words_of
-from wrong_reach_readers import WRONG
+from wrong_change_readers import WRONG
 
 VECTORS = sorted(all_vectors(), key=lambda one: 10**9 if one.where.startswith("long.txt") else len(one.text))  # The quick first.
 DOCUMENT = (DOCS / "FORMAT.md").read_text(encoding="utf-8")
-QUESTIONS = range(1, 15)
+QUESTIONS = range(1, 17)
 NOT_IN_C = ["parents", "lasts", "read", "short_read"]
 SLIPS = (
     "pair 00 00",
@@ -33,6 +33,8 @@ SLIPS = (
     "pear 00 00 : no_chain",
     "reach 00 01 : reach 1 0 1",
     "reach 00 1 : reach 1",
+    "withdraw 00 13 0 8 : refused 1 0 0",
+    "add 00 13 0 1 16 10 : built 13 1 1 00",
     "chain 00 0 0 1 : chain 1,,2",
     "lookup 00*2 0 : found 00",
 )
@@ -62,13 +64,21 @@ def blocks():
     return [line for block in DOCUMENT.split("```")[1::2] for line in block.strip("\n").split("\n")]
 
 
-def octets(*counts):
-    """The bytes that the fenced blocks show, so many lines of them for each plan file and each tag file."""
+# The plan files and tag files that the fenced blocks show, in order, and how many lines each of them has.
+SHOWN = {
+    "plan 12": 8, "two windows": 3, "tags of plan 12": 7, "plan 14": 9, "short tags of plan 14": 8,
+    "plan 13": 9, "tags of plan 13": 8, "plan 15": 7, "tags of plan 15": 6,
+}
+
+
+def octets(*names):
+    """The bytes that the fenced blocks show of these."""
     lines = [line for line in blocks() if re.match(r"[0-9a-f]{2} ", line)]
     shown = [bytes.fromhex(re.match(r"([0-9a-f]{2} )+", line + " ").group()) for line in lines]
-    assert len(shown) == sum(counts), len(shown)
-    starts = [sum(counts[:at]) for at in range(len(counts))]
-    return [b"".join(shown[start : start + count]) for start, count in zip(starts, counts)]
+    assert len(shown) == sum(SHOWN.values()), len(shown)
+    rest = iter(shown)
+    files = {name: b"".join(next(rest) for _ in range(count)) for name, count in SHOWN.items()}
+    return [files[name] for name in names]
 
 
 class Files(unittest.TestCase):
@@ -137,7 +147,7 @@ class Document(unittest.TestCase):
         self.assertEqual([text for text in shown if text not in stored], [])
 
     def test_plan_12_is_the_one_of_the_vectors(self):
-        file, _, tags, *_ = octets(8, 3, 7, 9, 8)
+        file, tags = octets("plan 12", "tags of plan 12")
         rows = table("position", "parent", "component", "depth", "rank", "last", "rank of the last")
         numbers = [list(map(int, row)) for row in rows]
         positions, parents, components, depths, ranks, lasts, last_ranks = map(list, zip(*numbers))
@@ -153,7 +163,7 @@ class Document(unittest.TestCase):
 
     def test_the_overlap_that_it_works_out_is_the_one_of_the_vectors(self):
         """With minimums of 5, 6 and 11, of which the document says what they change."""
-        _, file, *_ = octets(8, 3, 7, 9, 8)
+        (file,) = octets("two windows")
         minimums = {minimum: file[:4] + struct.pack("<I", minimum) + file[8:] for minimum in (5, 6, 11)}
         self.assertEqual(minimums[5], file)
         self.assertEqual([at for at in range(len(file)) if minimums[6][at] != file[at]], [4])
@@ -163,7 +173,7 @@ class Document(unittest.TestCase):
         self.assertIn(("validate", (minimums[11],), ("refused", 4, 0, 0)), stored)
 
     def test_plan_14_is_the_one_of_the_vectors(self):
-        *_, file, tags = octets(8, 3, 7, 9, 8)
+        file, tags = octets("plan 14", "short tags of plan 14")
         rows = table("position", "end", "parent", "component", "depth", "rank")
         positions, ends, parents, components, depths, ranks = map(list, zip(*(map(int, row) for row in rows)))
         self.assertEqual(positions, list(range(8)))
@@ -173,6 +183,19 @@ class Document(unittest.TestCase):
         stored = [(vector.call, vector.answer) for vector in VECTORS if vector.arguments[0] == file]
         self.assertIn(("short_tags", ("built", 14, 8, 2, tags)), stored)
         self.assertIn(("parents", ("filled", parents)), stored)
+
+    def test_the_changes_that_it_works_out_are_those_of_the_vectors(self):
+        """And plan 13 and plan 15 keep the tags of plan 12 that the document says."""
+        old, added, withdrawn = octets("plan 12", "plan 13", "plan 15")
+        tags, added_tags, withdrawn_tags = octets("tags of plan 12", "tags of plan 13", "tags of plan 15")
+        stored = [(vector.call, vector.arguments, vector.answer) for vector in VECTORS]
+        self.assertIn(("add", (old, 13, 18, 3, len(added), len(added_tags)), ("built", 13, 8, 2, added, added_tags)), stored)
+        room = len(withdrawn), len(withdrawn_tags)
+        self.assertIn(("withdraw", (old, 15, 2, *room), ("built", 15, 6, 3, withdrawn, withdrawn_tags)), stored)
+        before, after = ([file[at + 2 : at + 10] for at in range(0, len(file), 10)] for file in (tags, added_tags))
+        self.assertEqual([v for v in range(7) if before[v] == after[v]], list(range(6)))
+        after = [withdrawn_tags[at + 2 : at + 10] for at in range(0, len(withdrawn_tags), 10)]
+        self.assertEqual([v for v in range(6) if after[v] == before[v + (v >= 2)]], [])
 
     def test_the_revision_is_the_last_of_its_table(self):
         rows = table("revision", "date", "what changed", "a reader made to the revision before")
@@ -196,7 +219,7 @@ class Document(unittest.TestCase):
             if vector.answer[0] == "refused":
                 number, input, position = vector.answer[1:]
                 given[vector.call].add((number, input))
-                self.assertTrue(position == 0 or questions[number][4] == "the window's", vector.where)
+                self.assertTrue(position == 0 or questions[number][4].startswith("the window's"), vector.where)
         self.assertEqual([row[0] for row in table("call", "takes", "answers", "asks")], list(CALLS))
         for call, _, _, asks in table("call", "takes", "answers", "asks"):
             due = set()

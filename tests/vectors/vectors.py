@@ -11,6 +11,7 @@ FOLDER = DOCS / "vectors"
 # For each call the kinds of its arguments, and of what follows the first word of each answer. "entries" and "octets" are the
 # rooms of a lent table of numbers and of a lent table of bytes.
 PAIR = {"handovers": "number", "no_chain": ""}
+CHANGED = {"built": "number number number bytes bytes"}
 CALLS = {
     "validate": ("bytes", {"accepted": "number number"}),
     "build": ("bytes" + " entries" * 5 + " octets", {"built": "number number number" + " list" * 5 + " bytes"}),
@@ -26,6 +27,8 @@ CALLS = {
     "neighbours": ("bytes number entries", {"neighbours": "list"}),
     "reach": ("bytes number", {"reach": "number number number"}),
     "same": ("bytes bytes", {"same": "", "different": ""}),
+    "add": ("bytes number number number octets octets", CHANGED),
+    "withdraw": ("bytes number number octets octets", CHANGED),
     "short_tags": ("bytes octets", {"built": "number number number bytes"}),
     "short_read": ("bytes", {"tag": "number number number number"}),
     "short_write": ("number number number number octets", {"written": "bytes"}),
@@ -191,8 +194,9 @@ def answer_of(call, result, lent):
     call = call.replace("short_", "")
     if call == "validate":
         return ("accepted", *result), []
-    if call in ("build", "tags"):
-        rooms = [result[1]] * (len(lent) - 1) + [tag_length * result[1]]
+    if call in ("build", "tags", "add", "withdraw"):
+        entries = 8 + 8 * result[1] if call in ("add", "withdraw") else result[1]
+        rooms = [entries] * (len(lent) - 1) + [tag_length * result[1]]
         return ("built", *result, *(table[:room] for table, room in zip(lent, rooms))), rooms
     if call in ("parents", "lasts", "neighbours", "chain") and result is not None:
         name = {"parents": "filled", "lasts": "filled"}.get(call, call)

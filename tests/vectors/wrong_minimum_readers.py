@@ -262,7 +262,7 @@ class Heedless(Reader):
         return super().overlap(heedless(plan), u, v)
 
 
-for _call in ("build", "tags", "parents", "lasts", "chain", "neighbours", "reach", "same", "short_tags"):
+for _call in ("build", "tags", "parents", "lasts", "chain", "neighbours", "reach", "same", "add", "withdraw", "short_tags"):
     wrong("Heedless" + _call.title().replace("_", ""), f"the minimum heeded in every call but {_call}",
           **{_call: lambda self, *arguments, call=_call: getattr(Heedless(), call)(*arguments)})
 

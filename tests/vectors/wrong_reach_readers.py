@@ -62,13 +62,18 @@ class FromTheNamed(Reader):
         return self.greatest((away[v], *sorted((at, v))) for v in self.members(beside, at))
 
 
-@mistaken("handovers counted from the component's first window to the one that ends last")
-class ToTheLatestEnd(Reader):
+class ByTheLatestEnd(Reader):
+    """Of a component's windows, the one that ends last taken for the last."""
+
     def farthest(self, plan, at):
         beside = self.beside(plan)
         members = self.members(beside, at)
-        latest = max(members, key=lambda v: plan.ends[v])
-        return self.handovers_to(beside, members[0])[latest], members[0], latest
+        return self.by_latest(beside, members, max(members, key=lambda v: plan.ends[v]))
+
+
+wrong("ToTheLatestEnd", "handovers counted from the component's first window to the one that ends last", ByTheLatestEnd,
+      by_latest=lambda self, beside, members, latest: (
+          self.handovers_to(beside, members[0])[latest], members[0], latest))
 
 
 class OfSomeTwo(Reader):
@@ -189,16 +194,9 @@ wrong("ComponentToTheEnd", "the component taken to go on to the plan's last wind
       members=lambda self, beside, at: range(Reader.members(self, beside, at)[0], len(beside)))
 wrong("ComponentFromTheStart", "the component taken to begin with window 0", OfSomeTwo,
       members=lambda self, beside, at: range(Reader.members(self, beside, at)[-1] + 1))
-
-
-@mistaken("the component taken to end with the window that ends last")
-class UpToTheLatestEnd(Reader):
-    def farthest(self, plan, at):
-        beside = self.beside(plan)
-        members = self.members(beside, at)
-        latest = max(members, key=lambda v: plan.ends[v])
-        return self.greatest(self.counts(beside, [v for v in members if v <= latest]))
-
+wrong("UpToTheLatestEnd", "the component taken to end with the window that ends last", ByTheLatestEnd,
+      by_latest=lambda self, beside, members, latest: self.greatest(
+          self.counts(beside, [v for v in members if v <= latest])))
 
 # The minimum.
 
