@@ -10,6 +10,13 @@ pub struct Refusal {
     pub position: u16,
 }
 
+impl Refusal {
+    /// As the library answers it.
+    pub fn packed(self) -> u64 {
+        (self.number as u64) << 16 | (self.input as u64) << 32 | (self.position as u64) << 48
+    }
+}
+
 fn no<T>(number: u8, input: u8, position: usize) -> Result<T, Refusal> {
     Err(Refusal { number, input, position: position as u16 })
 }
@@ -170,6 +177,75 @@ pub fn hand_build(file: &[u8], tables: [&mut [u16]; 5], tags: &mut [u8]) -> Resu
     Ok((number, n as u16, count))
 }
 
+/// The plan file of these windows, which come in parts, and its tag file, by the build above with all that it asks.
+fn write_changed(
+    plan: u16,
+    minimum: u32,
+    parts: [&[u8]; 3],
+    changed: &mut [u8],
+    tags: &mut [u8],
+) -> Result<(u16, u16, u16), Refusal> {
+    let n = parts.iter().map(|part| part.len()).sum::<usize>() / 8;
+    if changed.len() < 8 + 8 * n || tags.len() < 10 * n {
+        return no(8, 0, 0);
+    }
+    let changed = &mut changed[..8 + 8 * n];
+    let (head, mut places) = changed.split_at_mut(8);
+    head[..2].copy_from_slice(&plan.to_le_bytes());
+    head[2..4].copy_from_slice(&(n as u16).to_le_bytes());
+    head[4..].copy_from_slice(&minimum.to_le_bytes());
+    for part in parts {
+        let (place, behind) = places.split_at_mut(part.len());
+        place.copy_from_slice(part);
+        places = behind;
+    }
+    let mut tables = [[0; MOST]; 5];
+    hand_build(changed, tables.each_mut().map(|table| &mut table[..]), tags)
+}
+
+/// Plan number, windows and components of the changed plan.
+#[no_mangle]
+#[inline(never)]
+pub fn hand_add(
+    file: &[u8],
+    plan: u16,
+    (offset, length): (u32, u32),
+    changed: &mut [u8],
+    tags: &mut [u8],
+) -> Result<(u16, u16, u16), Refusal> {
+    let Plan { number, minimum, pairs } = validate(file)?;
+    let (windows, _) = pairs.as_chunks::<8>();
+    if windows.len() == MOST {
+        return no(15, 0, 0);
+    }
+    if plan == number {
+        return no(16, 0, 0);
+    }
+    if length < minimum {
+        return no(4, 0, 0);
+    }
+    if offset as u64 + length as u64 > 10_000_000 {
+        return no(5, 0, 0);
+    }
+    let (before, behind) = pairs.split_at(8 * windows.partition_point(|pair| window(pair).0 <= offset));
+    let added = (offset as u64 | (length as u64) << 32).to_le_bytes();
+    write_changed(plan, minimum, [before, &added, behind], changed, tags)
+}
+
+/// Plan number, windows and components of the changed plan.
+#[no_mangle]
+#[inline(never)]
+pub fn hand_withdraw(file: &[u8], plan: u16, at: usize, changed: &mut [u8], tags: &mut [u8]) -> Result<(u16, u16, u16), Refusal> {
+    let Plan { number, minimum, pairs } = validate(file)?;
+    if plan == number {
+        return no(16, 0, 0);
+    }
+    if at >= pairs.len() / 8 {
+        return no(7, 0, 0);
+    }
+    write_changed(plan, minimum, [&pairs[..8 * at], &[], &pairs[8 * at + 8..]], changed, tags)
+}
+
 /// The first window that ends before the one ahead of it.
 fn first_fall(ends: &[u32]) -> Option<usize> {
     let ahead = ends.windows(2).position(|two| two[1] < two[0])?;
@@ -274,7 +350,7 @@ fn packed(answer: Result<Option<u16>, Refusal>) -> u64 {
     match answer {
         Ok(Some(count)) => 9 | (count as u64) << 16,
         Ok(None) => 5,
-        Err(Refusal { number, input, position }) => (number as u64) << 16 | (input as u64) << 32 | (position as u64) << 48,
+        Err(refusal) => refusal.packed(),
     }
 }
 

@@ -3,6 +3,7 @@
 //!
 //!   bench                             the tables
 //!   bench --count CALL WHO SHAPE N    makes one call only (CALL of WHO, ours or hand), for an instruction counter
+mod change;
 mod hand;
 mod page;
 mod plans;
@@ -204,6 +205,7 @@ fn count(words: &[String]) {
         ("short_pair", _) => keep(hand::hand_short_pair(short::tag(&tags, u), short::tag(&tags, v))),
         ("reach", "ours") => keep(reach::reach(file, u)),
         ("reach", _) => keep(hand::hand_reach(file, u)),
+        (call @ ("add" | "withdraw"), who) => change::count(call, who, file, u),
         ("chain", "ours") => keep(chain(file, u, v, &mut lent.out)),
         ("chain", _) => keep(hand::hand_chain(file, u, v, &mut lent.out)),
         ("neighbours", "ours") => keep(neighbours(file, u, &mut lent.out)),
@@ -231,4 +233,5 @@ fn main() {
     short::table();
     page::table();
     reach::table();
+    change::table();
 }

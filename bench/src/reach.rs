@@ -24,10 +24,10 @@ fn positions(case: &Case) -> impl Iterator<Item = usize> + '_ {
 
 /// In all plans of a case. Over fewer windows that come again and again the ratio of equal instructions differed by half from one build of
 /// this program to another, perhaps since a processor learns their branches (docs/DECISIONS.md).
-const WINDOWS: usize = 1 << 17;
+pub const WINDOWS: usize = 1 << 17;
 
 /// Each plan with a position.
-fn asked(case: &Case) -> impl Iterator<Item = (&[u8], usize)> {
+pub fn asked(case: &Case) -> impl Iterator<Item = (&[u8], usize)> {
     case.files.iter().zip(&case.queries).map(|(file, &(at, _))| (&file[..], at))
 }
 
