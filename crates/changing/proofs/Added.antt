@@ -1,8 +1,8 @@
 -- A plan with a window more: where the windows stand in it, and that it is accepted.
 -- Vocabulary: place-le, place-before, place-behind, added-*.
 -- Assumes nothing.
-use Prim.Native.Nat.{ℕ, zero, suc, _-_, _≤_, _<_}
-use mathlib.Core.{Bool.Bool, Bool.true, Path._≡_, Path.sym, Path.ap, Path._∙_, Logic.⊎-elim, List.List}
+use Prim.Native.Nat.{ℕ, suc, _-_, _≤_, _<_}
+use mathlib.Core.{Bool.Bool, Bool.true, Path._≡_, Path.ap, Path._∙_, Logic.⊎-elim, List.List}
 use native.Mathlib.Omega.{arith}
 use lib.{ListN.length, Dec.leb}
 use borrow.Author.Tests.{leb-true, leb-false, le-leb}
@@ -12,7 +12,7 @@ use Rattle.plan.specs.declared.windows.Window.{Window}
 use Rattle.plan.specs.File.{windowCount, minimumHandover, windowAt, endOf}
 use Rattle.plan.specs.Validation.{greatestCount, greatestEnd, AcceptedPlan}
 use Rattle.plan.proofs.Accepted.{Sound, accepted-sound, sound-accepted, offsets-sorted}
-use Rattle.changing.specs.Change.{windowsOf, addedPlace, insertedAt, changedWindows, changedFile, adding}
+use Rattle.changing.specs.Change.{windowsOf, addedPlace, changedWindows, changedFile, adding}
 use Rattle.changing.proofs.Lists.{length-inserted, inserted-before, inserted-there, inserted-behind}
 use Rattle.changing.proofs.Changed.{same-offset, length-windowsOf, getD-windowsOf, changed-minimum, changed-count, changed-whole}
 use Rattle.changing.proofs.Changed.{changed-window, sorted-next}

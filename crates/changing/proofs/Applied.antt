@@ -14,16 +14,17 @@ use Rattle.plan.specs.declared.windows.Window.{Window}
 use Rattle.plan.specs.File.{windowCount}
 use Rattle.tag_bytes.specs.Fields.{tagLength}
 use Rattle.numbering.specs.declared.answers.BuildAnswer.{BuildAnswer}
-use Rattle.numbering.specs.declared.answers.BuildAnswer.the-variants.{Built, Refused}
+use Rattle.numbering.specs.declared.answers.BuildAnswer.the-variants.{Refused}
 use Rattle.numbering.specs.Tables.{numbersAt}
 use Rattle.tree.specs.Build.{tagsAnswerOf, afterTags}
+use Rattle.tree.proofs.Built.{tags-made}
 use Rattle.changing.specs.declared.records.Edit.{Edit}
 use Rattle.changing.specs.declared.records.Edit.the-variants.{Add, Withdraw}
 use Rattle.changing.specs.declared.records.Change.{Change}
 use Rattle.changing.specs.Change.{changedFile, adding, withdrawing}
 use Rattle.changing.specs.Questions.{AcceptedChange, changeQuestions, changeAnswerOf, afterChange}
 use Rattle.changing.specs.Steps.{Addable, Withdrawable}
-use Rattle.changing.proofs.Asked.{change-plan, change-added, change-withdrawn, change-accepted, change-answered, tags-made}
+use Rattle.changing.proofs.Asked.{change-plan, change-added, change-withdrawn, change-accepted, change-answered}
 
 -- A change is its number and what is to be done.
 same : (c : Change) (edit : Edit) → c .edit ≡ edit → c ≡ record { plan = c .plan; edit = edit }

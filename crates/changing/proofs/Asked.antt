@@ -1,28 +1,26 @@
 -- What is asked of a change: which question is the first "no", what is known of a change that passes, and what is then answered.
 -- Vocabulary: change-15, change-16, change-refused, change-8, change-passed, asked-accepted, change-plan, change-other, accept-change,
--- change-added, change-withdrawn, change-accepted, change-answered, tags-made, withdraw-7, withdraw-passed, plan-fits, plan-too-long.
+-- change-added, change-withdrawn, change-accepted, change-answered, withdraw-7, withdraw-passed, plan-fits, plan-too-long.
 -- Assumes nothing.
 use Prim.Native.Nat.{ℕ, _*_, _≤_, _<_}
-use mathlib.Core.Bool.{Bool, true, false, not, _&&_}
+use mathlib.Core.Bool.{true, false, _&&_}
 use mathlib.Core.{Path._≡_, Path.refl, Path.sym, Path._∙_, List.List, List.[], List._∷_, List._++_}
 use mathlib.Core.List.{List·Memᴰ, List·Memᴰ·head, List·Memᴰ·tail}
 use native.Mathlib.Omega.{arith}
 use lib.ListN.{length}
-use lib.Dec.{ltb, leb, eqb}
+use lib.Dec.{ltb, leb}
 use borrow.Author.Tests.{ltb-true, leb-true, eqb-false, lt-ltb, le-ltb, le-leb, lt-leb, eq-eqb, ne-eqb, not-true}
 use Rattle.sequences.proofs.Tests.{and-left, and-right, and-intro}
 use Rattle.refusals.specs.declared.{Refusal.Refusal, Asked.Asked, Asked.the-variants.Passed, Asked.the-variants.Refused}
-use Rattle.refusals.specs.Question.{Question, refusalBy, question, firstNo, allYes, askedOf, positionQuestion, roomQuestion}
-use Rattle.refusals.proofs.Question.{asked-refused, asked-passed, first-all, all-first, all-member, all-append, append-left, append-right}
+use Rattle.refusals.specs.Question.{Question, refusalBy, question, firstNo, allYes, askedOf, positionQuestion}
+use Rattle.refusals.proofs.Question.{asked-refused, asked-passed, passed-all, all-first, all-member, all-append, append-left, append-right}
 use Rattle.plan.specs.declared.windows.Window.{Window}
 use Rattle.plan.specs.File.{fileLength, planNumber, windowCount, minimumHandover, endOf}
-use Rattle.plan.specs.Validation.{greatestCount, greatestEnd, ownQuestions, planQuestions, AcceptedPlan}
+use Rattle.plan.specs.Validation.{greatestCount, greatestEnd, planQuestions, AcceptedPlan}
 use Rattle.plan.specs.AcceptedWindows.{AcceptedWindows}
-use Rattle.plan.proofs.Calls.{plan-passed}
 use Rattle.tag_bytes.specs.Fields.{tagLength}
 use Rattle.numbering.specs.declared.answers.BuildAnswer.the-variants as build
 use Rattle.numbering.specs.Tables.{componentCount}
-use Rattle.tree.specs.Build.{tagsQuestions, tagsAnswerOf}
 use Rattle.changing.specs.declared.records.Edit.{Edit}
 use Rattle.changing.specs.declared.records.Edit.the-variants.{Add, Withdraw}
 use Rattle.changing.specs.declared.records.Change.{Change}
@@ -31,11 +29,6 @@ use Rattle.changing.specs.Questions.{hasPlace, editQuestions, recordQues
 use Rattle.changing.specs.Steps.{countAfter, countFits}
 use Rattle.changing.proofs.Changed.{changed-whole}
 use Rattle.changing.proofs.{Added.added-count, Added.added-accepted, Withdrawn.withdrawn-count, Withdrawn.withdrawn-accepted}
-
--- Questions that are asked and passed are all answered "yes".
-passed-all : (qs : List Question) → Passed ≡ askedOf qs → allYes qs ≡ true
-unfolding askedOf
-passed-all qs e = first-all qs Refused Passed (λ r s. let z : _≡_ {A = ℕ} 0 1 = cc in omega arith) (sym e)
 
 position-within : (at windows : ℕ) → allYes (positionQuestion at windows ∷ []) ≡ true → at < windows
 unfolding positionQuestion question allYes
@@ -164,7 +157,7 @@ accepted-by file plan (Withdraw at) ok =
 pub change-accepted : (file : List ℕ) (c : Change) → AcceptedChange file c → AcceptedPlan (changedFile file c)
 change-accepted file c ok = accepted-by file (c .plan) (c .edit) ok
 
--- With room, the change is answered so,
+-- With room, the change is answered so.
 pub change-answered : (file : List ℕ) (c : Change) (changed tags : ℕ) → AcceptedChange file c → length (changedFile file c) ≤ changed →
     tagLength * windowCount (changedFile file c) ≤ tags → changeAnswerOf file c changed tags
     ≡ build.Built (planNumber (changedFile file c)) (windowCount (changedFile file c)) (componentCount (changedFile file c))
@@ -176,12 +169,6 @@ change-answered file c changed tags ok long wide =
     all-first (planQuestions file ++ (own ++ room)) build.Refused _ (all-append (planQuestions file) (own ++ room)
     ∙ and-intro _ _ (change-plan file c ok)
     (all-append own room ∙ and-intro _ _ (append-right (planQuestions file) own ok) fits))
-
--- and so is the tag file alone of an accepted plan.
-pub tags-made : (file : List ℕ) (tags : ℕ) → AcceptedPlan file → tagLength * windowCount file ≤ tags →
-    tagsAnswerOf file tags ≡ build.Built (planNumber file) (windowCount file) (componentCount file)
-unfolding tagsAnswerOf tagsQuestions roomQuestion question firstNo
-tags-made file tags ok fits = plan-passed file _ build.Refused _ ok ∙ rw (le-leb (tagLength * windowCount file) tags fits)
 
 -- What each answer of the pieces shows: 7 of a position to withdraw, 8 by the number of windows.
 module _ (at minimum windows : ℕ) where

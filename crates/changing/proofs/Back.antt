@@ -12,7 +12,7 @@ use Rattle.refusals.specs.Question.{question, positionQuestion, allYes}
 use Rattle.plan.specs.File.{windowCount, minimumHandover, windowAt, endOf}
 use Rattle.plan.specs.Validation.{greatestCount, greatestEnd, AcceptedPlan}
 use Rattle.plan.proofs.Accepted.{accepted-sound, offsets-sorted}
-use Rattle.changing.specs.Change.{windowsOf, addedPlace, insertedAt, removedAt, changedWindows, changedFile, adding, withdrawing}
+use Rattle.changing.specs.Change.{windowsOf, addedPlace, removedAt, changedWindows, changedFile, adding, withdrawing}
 use Rattle.changing.specs.Questions.{hasPlace, editQuestions, AcceptedChange}
 use Rattle.changing.proofs.{Lists.removed-inserted, Changed.same-offset, Changed.length-windowsOf, Changed.changed-windows}
 use Rattle.changing.proofs.{Changed.changed-number, Changed.changed-minimum}

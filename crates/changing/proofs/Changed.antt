@@ -1,10 +1,9 @@
 -- The changed file of any change: its number, its minimum, how long it is, and its windows, which are those of the changed list.
 -- Assumes nothing.
 use Prim.Native.Nat.{ℕ, zero, suc, _≤_, _<_}
-use mathlib.Core.{Path._≡_, Path.sym, Path.ap, Path._∙_, List.List}
+use mathlib.Core.{Path._≡_, Path.ap, Path._∙_, List.List}
 use native.Mathlib.Omega.{arith}
 use lib.{ListN.length, ListN.getD, Seq.ext-getD}
-use Rattle.sequences.specs.Table.{table}
 use Rattle.sequences.proofs.Table.{length-table, getD-table}
 use Rattle.plan.specs.declared.windows.Window.{Window}
 use Rattle.plan.specs.File.{fileLength, planNumber, windowCount, minimumHandover, windowAt}

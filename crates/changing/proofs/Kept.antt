@@ -2,11 +2,11 @@
 -- Vocabulary: added-numbers, withdrawn-numbers.
 -- Assumes nothing.
 use Prim.Native.Nat.{ℕ, suc, _-_, _≤_, _<_}
-use mathlib.Core.{Bool.false, Path._≡_, Path.refl, Path.sym, Path._∙_, Logic.⊎-elim, List.List}
+use mathlib.Core.{Bool.true, Bool.false, Path._≡_, Path.refl, Path.sym, Path._∙_, Logic.⊎-elim, List.List}
 use native.Mathlib.Omega.{arith}
 use lib.Dec.{eqb}
 use borrow.Author.Tests.{ne-eqb}
-use Rattle.sequences.proofs.Tests.{truth, lt-or-ge, equal-or-not, true-false-absurd}
+use Rattle.sequences.proofs.Tests.{truth, lt-or-ge, equal-or-not}
 use Rattle.interval_graph.specs.Order.{IntervalOrder}
 use Rattle.interval_graph.specs.{Tree.root, Tree.component, Reach.lastInComponent, Numbers.numbersOf}
 use Rattle.interval_graph.proofs.{Parent.tree, Component.root-component, Depth.root-parent, Depth.root-le, Depth.fixed-is-root}
@@ -14,8 +14,8 @@ use Rattle.interval_graph.proofs.Monotone.{overlap-root, component-monotone}
 use Rattle.interval_graph.proofs.Cut.{Cut, cut-numbers, root-cut, component-cut}
 use Rattle.interval_graph.proofs.Reach.{lastInComponent-window, lastInComponent-component, lastInComponent-greatest}
 use Rattle.plan.specs.declared.windows.Window.{Window}
-use Rattle.plan.specs.File.{windowCount, minimumHandover, windowAt}
-use Rattle.plan.specs.{Overlap.sharing, Overlap.overlaps, Validation.AcceptedPlan}
+use Rattle.plan.specs.File.{windowCount, windowAt}
+use Rattle.plan.specs.Overlap.{sharing, overlaps}
 use Rattle.plan.proofs.Overlap.{interval-order}
 use Rattle.changing.specs.declared.records.Change.{Change}
 use Rattle.changing.specs.Change.{addedPlace, changedFile, adding, withdrawing}
@@ -60,11 +60,10 @@ module _ (file : List ℕ) (plan : ℕ) (w : Window) (ok : AcceptedChange file (
   -- Nothing up to the component's last window overlaps the added one: in interval order it would overlap that window, too.
   none-added : (i : ℕ) → i ≤ end → overlaps changed i (addedPlace file w) ≡ false
   none-added i le =
-      let n = windowCount file in
       ⊎-elim (λ t. ⊎-elim (λ same. apart i (omega (arith, end-window)) same .1) (λ differ. absurd (differ (between t differ)))
       (equal-or-not (component (overlaps file) i) (component (overlaps file) v))) (λ t. t) (truth (overlaps changed i (addedPlace file w)))
     where
-      between : overlaps changed i (addedPlace file w) ≡ mathlib.Core.Bool.true →
+      between : overlaps changed i (addedPlace file w) ≡ true →
           (component (overlaps file) i ≡ component (overlaps file) v → ⊥) → component (overlaps file) i ≡ component (overlaps file) v
       between t differ =
           let last = lastInComponent-component (windowCount file) (overlaps file) v in
@@ -130,7 +129,6 @@ module _ (file : List ℕ) (plan at : ℕ) (ok : AcceptedChange file (withdrawin
       record {
         within = omega (arith, first, there, withdrawn-count file plan at there);
         across = λ i j l g b.
-            let less : suc j < suc (windowCount without) = omega arith in
             ⊎-elim (λ before. overlaps-apart file (withdrawing plan at) i j i j (withdrawn-before file plan at there i (omega (arith, first)))
             (withdrawn-before file plan at there j before) (omega arith) (omega arith)
             ∙ root-cut ordered at there .across i j l g (omega (arith, there)))

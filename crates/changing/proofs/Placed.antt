@@ -1,7 +1,7 @@
 -- The pass that counts the windows with at most an offset.
 -- Vocabulary: Counted, counted-*.
 -- Assumes nothing.
-use Prim.Native.Nat.{ℕ, suc, _+_, _≤_, _<_}
+use Prim.Native.Nat.{ℕ, _+_, _≤_, _<_}
 use mathlib.Core.{Path._≡_, Path.refl, Path.sym, Path._∙_, List.List}
 use native.Mathlib.{Omega.arith, Numerals.add-one}
 use lib.Dec.{leb}

@@ -4,7 +4,7 @@
 use Prim.Native.Nat.{ℕ}
 use mathlib.Core.{Path._≡_, Path.refl, List.List, List.[], List._∷_}
 use lib.ListN.{length, take}
-use Rattle.refusals.specs.Question.{Question, refusalBy, refusalAbout, positionQuestion, askedOf}
+use Rattle.refusals.specs.Question.{refusalBy, positionQuestion, askedOf}
 use Rattle.refusals.specs.declared.Asked.{Asked}
 use Rattle.refusals.specs.declared.Asked.the-variants as Asked
 use Rattle.plan.specs.declared.windows.Window.{Window}
@@ -12,7 +12,6 @@ use Rattle.plan.specs.File.{fileOf}
 use Rattle.plan.proofs.Plan12.{file, meaning}
 use Rattle.numbering.specs.declared.answers.BuildAnswer.the-variants.{Built, Refused}
 use Rattle.numbering.proofs.Plan12.{numbered}
-use Rattle.changing.specs.declared.records.Change.{Change}
 use Rattle.changing.specs.Change.{windowsOf, addedPlace, insertedAt, removedAt, changedWindows, changedFile, adding, withdrawing}
 use Rattle.changing.specs.Questions.{hasPlace, editQuestions, recordQuestions, bothFit, changeQuestions, changeAnswerOf, afterChange}
 

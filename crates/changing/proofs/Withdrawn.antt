@@ -9,8 +9,8 @@ use Rattle.sequences.proofs.Tests.{lt-or-ge}
 use Rattle.plan.specs.declared.windows.Window.{Window}
 use Rattle.plan.specs.File.{windowCount, minimumHandover, windowAt, endOf}
 use Rattle.plan.specs.Validation.{greatestEnd, AcceptedPlan}
-use Rattle.plan.proofs.Accepted.{Sound, accepted-sound, sound-accepted, offsets-sorted}
-use Rattle.changing.specs.Change.{windowsOf, removedAt, changedWindows, changedFile, withdrawing}
+use Rattle.plan.proofs.Accepted.{accepted-sound, sound-accepted, offsets-sorted}
+use Rattle.changing.specs.Change.{windowsOf, changedWindows, changedFile, withdrawing}
 use Rattle.changing.proofs.Lists.{length-removed, removed-before, removed-behind}
 use Rattle.changing.proofs.Changed.{same-offset, length-windowsOf, getD-windowsOf, changed-minimum, changed-count, changed-whole}
 use Rattle.changing.proofs.Changed.{changed-window, sorted-next}

@@ -3,23 +3,23 @@
 -- Vocabulary: part-copied, place-read, with-written, with-long, with-room, without-written, without-long, without-room.
 -- Assumes nothing.
 use Prim.Native.Nat.{ℕ, suc, _+_, _-_, _*_, _≤_, _<_}
-use mathlib.Core.{Path._≡_, Path.refl, Path.sym, Path.ap, Path._∙_, List.List, List.[], List._∷_, List._++_, List.append-assoc, List.append-nil}
+use mathlib.Core.{Path._≡_, Path.sym, Path.ap, Path._∙_, List.List, List.[], List._∷_, List._++_, List.append-assoc, List.append-nil}
 use mathlib.Core.List.{flatMap}
 use native.Mathlib.Omega.{arith}
 use lib.ListN.{length, getD, take, drop, length-append, length-drop}
 use lib.Seq.{take-all, drop-drop, drop-length, length-take-le}
 use borrow.Author.Tests.{le-leb}
 use borrow.Rule.Slice.PartMut.{putMid, postOf, post-is}
-use Rattle.sequences.specs.Table.{table, overwritten}
+use Rattle.sequences.specs.Table.{overwritten}
 use Rattle.sequences.proofs.FlatMap.{flatMap-append}
 use Rattle.wire.specs.LittleEndian.{placed}
 use Rattle.wire.proofs.LittleEndian.{length-placed, placed-behind, placed-front}
 use Rattle.plan.specs.declared.windows.Window.{Window}
-use Rattle.plan.specs.File.{headerLength, windowLength, windowPlace, fileLength, windowCount, minimumHandover, windowAt}
+use Rattle.plan.specs.File.{headerLength, windowLength, windowPlace, fileLength, windowCount, minimumHandover}
 use Rattle.plan.specs.File.{headerBytes, windowBytes, fileOf}
 use Rattle.plan.specs.Validation.{AcceptedPlan}
 use Rattle.plan.proofs.Accepted.{accepted-sound}
-use Rattle.plan.proofs.Written.{length-windowBytes, length-headerBytes, windows-front, windows-behind}
+use Rattle.plan.proofs.Written.{length-windowBytes, length-headerBytes, front-long, windows-front, windows-behind}
 use Rattle.changing.specs.Change.{windowsOf, addedPlace, insertedAt, removedAt, changedWindows, changedFile, adding, withdrawing}
 use Rattle.changing.specs.Steps.{placeOf, Addable, Withdrawable}
 use Rattle.changing.proofs.Changed.{changed-whole, changed-count}
@@ -101,8 +101,12 @@ module _ (file : List ℕ) (ok : AcceptedPlan file) (bytes : (i : ℕ) → getD 
       take (place - headerLength) (drop headerLength file) ≡ flatMap windowBytes (take at (windowsOf file))
   unfolding windowsOf
   front at place e h =
-      let wide : place - headerLength ≡ windowLength * at = omega arith in
-      rw wide (windows-front file bytes (windowCount file) long at h)
+      let before : place - headerLength ≡ windowLength * at = omega arith in
+      rw before (windows-front file bytes (windowCount file) long at h)
+
+  wide : (at : ℕ) → at ≤ windowCount file → length (flatMap windowBytes (take at (windowsOf file))) ≡ windowLength * at
+  unfolding windowsOf
+  wide at h = front-long file bytes (windowCount file) long at h
 
   behind : (at place : ℕ) → place ≡ windowPlace at → at ≤ windowCount file →
       take (length file - place) (drop place file) ≡ flatMap windowBytes (drop at (windowsOf file))
@@ -130,8 +134,6 @@ module _ (file : List ℕ) (ok : AcceptedPlan file) (bytes : (i : ℕ) → getD 
         let at = addedPlace file w in let within = place-le file w in
         let h = headerBytes plan (suc (windowCount file)) (minimumHandover file) in
         let f = flatMap windowBytes (take at (windowsOf file)) in let g = flatMap windowBytes (drop at (windowsOf file)) in
-        let fl : length f ≡ windowLength * at = sym (ap length (front at place e within))
-        ∙ (length-take-le (place - headerLength) (drop headerLength file) (omega (arith, length-drop headerLength file, long)) ∙ omega arith) in
         let total : length h + length f + length (windowBytes w) + length g ≤ length l = omega (
           arith,
           room,
@@ -143,7 +145,7 @@ module _ (file : List ℕ) (ok : AcceptedPlan file) (bytes : (i : ℕ) → getD 
         let more : windows + 1 ≡ suc (windowCount file) = omega arith in
         rw (ed, ec, eb, ea, more, read, front at place e within, behind at place e within, with-bytes)
         (four-placed l h f (windowBytes w) g headerLength place (place + windowLength) (sym (length-headerBytes plan _ _))
-        (omega (arith, e, fl)) (omega (arith, length-windowBytes w)) total)
+        (omega (arith, e, wide at within)) (omega (arith, length-windowBytes w)) total)
 
   module _ (at : ℕ) (there : at < windowCount file) where
     without-bytes : changedFile file (withdrawing plan at) ≡ headerBytes plan (windowCount file - 1) (minimumHandover file)
@@ -167,8 +169,6 @@ module _ (file : List ℕ) (ok : AcceptedPlan file) (bytes : (i : ℕ) → getD 
     without-written place e room windows minimum counted read a b c ea eb ec =
         let h = headerBytes plan (windowCount file - 1) (minimumHandover file) in let next : place + windowLength ≡ windowPlace (suc at) = omega arith in
         let f = flatMap windowBytes (take at (windowsOf file)) in let g = flatMap windowBytes (drop (suc at) (windowsOf file)) in
-        let fl : length f ≡ windowLength * at = sym (ap length (front at place e (omega arith)))
-        ∙ (length-take-le (place - headerLength) (drop headerLength file) (omega (arith, length-drop headerLength file, long)) ∙ omega arith) in
         let total : length h + length f + length g ≤ length l = omega (
           arith,
           room,
@@ -177,4 +177,4 @@ module _ (file : List ℕ) (ok : AcceptedPlan file) (bytes : (i : ℕ) → getD 
           length-append f g,
         ) in
         rw (ec, eb, ea, counted, read, front at place e (omega arith), behind (suc at) (place + windowLength) next (omega arith), without-bytes)
-        (three-placed l h f g headerLength place (sym (length-headerBytes plan _ _)) (omega (arith, e, fl)) total)
+        (three-placed l h f g headerLength place (sym (length-headerBytes plan _ _)) (omega (arith, e, wide at (omega arith))) total)

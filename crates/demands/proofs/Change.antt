@@ -20,7 +20,6 @@ use Rattle.changing.proofs.Asked.{change-plan, change-other, change-withdrawn, 
 use Rattle.changing.proofs.{Added.added-count, Added.added-before, Withdrawn.withdrawn-count, Withdrawn.withdrawn-before}
 use Rattle.changing.proofs.Kept.{added-numbers, added-position, withdrawn-numbers, withdrawn-position}
 use Rattle.changing.proofs.Back.{added-withdrawn, added-withdrawable, withdrawn-addable, again-count, withdrawn-added, withdrawn-added-alone}
-use Rattle.demands.specs.EndToEnd.{tagAt}
 use Rattle.demands.specs.Change.{ChangedPlans, KeepsTag, AddingKeeps, WithdrawingKeeps, AddedWithdrawn, WithdrawnAdded}
 use Rattle.demands.proofs.Calls.{tag-bytes}
 

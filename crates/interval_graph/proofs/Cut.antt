@@ -5,7 +5,7 @@
 -- Assumes nothing.
 use Prim.Native.Nat.{ℕ, zero, suc, _+_, _-_, _≤_, _<_}
 use mathlib.Core.Bool.{Bool, false, _&&_}
-use mathlib.Core.{Path._≡_, Path.refl, Path.sym, Path.ap, Path._∙_, Logic.⊎-elim}
+use mathlib.Core.{Path._≡_, Path.refl, Path.ap, Path._∙_, Logic.⊎-elim}
 use mathlib.Core.List.{List, [], _∷_, _++_, append-nil, flatMap}
 use native.Mathlib.Omega.{arith}
 use lib.Dec.{ltb, eqb}
@@ -15,7 +15,7 @@ use Rattle.sequences.proofs.Tests.{truth, and-right, and-false-right, true-fals
 use Rattle.sequences.proofs.{Search.greatest-none, Passing.passing-add, Passing.passing-none, FlatMap.flatMap-cong}
 use Rattle.interval_graph.specs.Order.{IntervalOrder}
 use Rattle.interval_graph.specs.Forest.{children, postOrderTo, postOrder, rank}
-use Rattle.interval_graph.specs.Tree.{last, parent, root, component, lastRank}
+use Rattle.interval_graph.specs.Tree.{last, parent, root, lastRank}
 use Rattle.interval_graph.specs.{Reach.lastInComponent, Numbers.numbersOf}
 use Rattle.interval_graph.proofs.{Last.last-below, Parent.tree, Parent.parent-overlaps, Component.root-component}
 use Rattle.interval_graph.proofs.Depth.{root-le, root-parent, fixed-is-root}

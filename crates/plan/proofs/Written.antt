@@ -1,7 +1,7 @@
 -- The file of a list of windows: it has the bytes of so many windows, its windows are read back, and it is accepted exactly if the
 -- windows pass. And the other way round: the bytes behind a file's header are those of its windows.
 -- Vocabulary: length-windowBytes, windowOf-windowBytes, window-placed, window-unplaced, header-placed, header-unplaced, length-headerBytes,
--- length-fileOf, plan-fileOf, count-fileOf, minimum-fileOf, window-fileOf, windows-front, windows-behind, windowsPass, accepted-fileOf.
+-- length-fileOf, plan-fileOf, count-fileOf, minimum-fileOf, window-fileOf, front-long, windows-front, windows-behind, windowsPass, accepted-fileOf.
 -- Assumes nothing.
 use Prim.Native.Nat.{ℕ, zero, suc, _+_, _*_, _/_, _%_, _≤_, _<_}
 use mathlib.Core.{Bool.Bool, Bool.true, Bool._&&_, Path._≡_, Path.refl, Path.sym, Path.ap, Path._∙_}
@@ -128,7 +128,7 @@ module _ (file : List ℕ) (bytes : (i : ℕ) → getD file i 0 < 256) where
         ∙ (sym (all-bytes n (omega arith))
         ∙ (ap (flatMap windowBytes) (sym (take-append-drop at all)) ∙ flatMap-append windowBytes (take at all) (drop at all)))
 
-    front-long : length (flatMap windowBytes (take at (table (windowAt file) n))) ≡ windowLength * at
+    pub front-long : length (flatMap windowBytes (take at (table (windowAt file) n))) ≡ windowLength * at
     front-long =
         let all = table (windowAt file) n in
         length-records windowBytes windowLength length-windowBytes (take at all)

@@ -102,6 +102,11 @@ first-all (q ∷ qs) refused accepted apart e =
     ⊎-elim (λ t. and-intro (q .yes) (allYes qs) t (first-all qs refused accepted apart (sym (first-yes qs refused accepted q t) ∙ e)))
     (λ t. absurd (apart (q .refusal) (sym (first-no qs refused accepted q t) ∙ e))) (truth (q .yes))
 
+-- Of questions that were asked and passed none is.
+pub passed-all : (qs : List Question) → Passed ≡ askedOf qs → allYes qs ≡ true
+unfolding askedOf
+passed-all qs e = first-all qs Refused Passed (λ r s. let z : _≡_ {A = ℕ} 0 1 = cc in omega arith) (sym e)
+
 -- Each of them is answered "yes".
 pub all-member : (qs : List Question) → allYes qs ≡ true → (q : Question) → List·Memᴰ q qs → q .yes ≡ true
 unfolding allYes
@@ -198,8 +203,7 @@ module _ (first second windows : ℕ) where
 
   -- Positions that pass are those of windows.
   pub passed-within : Passed ≡ askedOf (positionQuestions first second windows) → (first < windows) × (second < windows)
-  unfolding askedOf positionQuestions positionQuestion question from
+  unfolding positionQuestions positionQuestion question from
   passed-within e =
-      let qs = positionQuestions first second windows in
-      let all = all-member qs (first-all qs Refused Passed (λ r s. let z : _≡_ {A = ℕ} 0 1 = cc in omega arith) (sym e)) in
+      let qs = positionQuestions first second windows in let all = all-member qs (passed-all qs e) in
       (ltb-true _ _ (all _ (List·Memᴰ·head refl)), ltb-true _ _ (all _ (List·Memᴰ·tail (List·Memᴰ·head refl))))

@@ -108,6 +108,12 @@ unfolding buildAnswerOf buildQuestions question firstNo
 build-built file p c d r l t ok rooms fits =
     plan-passed file _ Refused _ ok ∙ rw (rooms-fit (windowCount file) p c d r l t rooms fits)
 
+-- And so is its tag file alone.
+pub tags-made : (file : List ℕ) (t : ℕ) → AcceptedPlan file → tagLength * windowCount file ≤ t →
+    tagsAnswerOf file t ≡ Built (planNumber file) (windowCount file) (componentCount file)
+unfolding tagsAnswerOf tagsQuestions roomQuestion question firstNo
+tags-made file t ok fits = plan-passed file _ Refused _ ok ∙ rw (le-leb (tagLength * windowCount file) t fits)
+
 -- The five tables are answered as build is, where they are told the tag file's room.
 pub numbers-answered : (file : List ℕ) (p c d r l t : ℕ) → numbersAnswerOf file (leastRoom (t / tagLength) p c d r l) ≡ buildAnswerOf file p c d r l t
 unfolding numbersAnswerOf tableQuestions roomQuestion buildAnswerOf buildQuestions
