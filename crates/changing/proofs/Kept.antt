@@ -15,8 +15,8 @@ use Rattle.interval_graph.proofs.Cut.{Cut, cut-numbers, root-cut, component-cut
 use Rattle.interval_graph.proofs.Reach.{lastInComponent-window, lastInComponent-component, lastInComponent-greatest}
 use Rattle.plan.specs.declared.windows.Window.{Window}
 use Rattle.plan.specs.File.{windowCount, windowAt}
-use Rattle.plan.specs.Overlap.{sharing, overlaps}
-use Rattle.plan.proofs.Overlap.{interval-order}
+use Rattle.overlap.specs.Overlap.{sharing, overlaps}
+use Rattle.overlap.proofs.Overlap.{interval-order}
 use Rattle.changing.specs.declared.records.Change.{Change}
 use Rattle.changing.specs.Change.{addedPlace, changedFile, adding, withdrawing}
 use Rattle.changing.specs.Questions.{AcceptedChange}

@@ -9,7 +9,8 @@ use Rattle.refusals.specs.declared.Asked.{Asked}
 use Rattle.refusals.specs.declared.Asked.the-variants as Asked
 use Rattle.plan.specs.declared.windows.Window.{Window}
 use Rattle.plan.specs.File.{fileOf}
-use Rattle.plan.proofs.Plan12.{file, meaning}
+use Rattle.plan.proofs.Plan12.{file}
+use Rattle.overlap.proofs.Plan12.{meaning}
 use Rattle.numbering.specs.declared.answers.BuildAnswer.the-variants.{Built, Refused}
 use Rattle.numbering.proofs.Plan12.{numbered}
 use Rattle.changing.specs.Change.{windowsOf, addedPlace, insertedAt, removedAt, changedWindows, changedFile, adding, withdrawing}

@@ -11,7 +11,7 @@ use Rattle.interval_graph.specs.Numbers.{Numbers, numbersOf}
 use Rattle.interval_graph.proofs.Sameness.{SameNumbers}
 use Rattle.wire.specs.LittleEndian.{bytes16}
 use Rattle.plan.specs.File.{windowCount}
-use Rattle.plan.specs.Overlap.{overlaps}
+use Rattle.overlap.specs.Overlap.{overlaps}
 use Rattle.tag_bytes.specs.declared.reader.Tag.{Tag}
 use Rattle.tag_bytes.specs.Fields.{tagOf, tagWith, tagBytes, shortBytes}
 use Rattle.tag_bytes.proofs.Fields.{tagOf-tagBytes}

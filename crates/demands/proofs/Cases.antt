@@ -12,10 +12,10 @@ use Rattle.interval_graph.proofs.Plan12.{definitions}
 use Rattle.interval_graph.proofs.Rule.{outcome-apart, outcome-no-chain}
 use Rattle.refusals.specs.Question.{allYes}
 use Rattle.plan.specs.File.{windowCount}
-use Rattle.plan.specs.Overlap.{overlaps}
+use Rattle.overlap.specs.Overlap.{overlaps}
 use Rattle.plan.specs.Validation.{planQuestions, AcceptedPlan}
-use Rattle.plan.proofs.Plan12.{meaning}
-use Rattle.plan.proofs.Overlap.{interval-order}
+use Rattle.overlap.proofs.Plan12.{meaning}
+use Rattle.overlap.proofs.Overlap.{interval-order}
 use Rattle.numbering.specs.Tables.{componentCount}
 use Rattle.path.specs.Chain.{chainBetween}
 use Rattle.demands.specs.Cases.{plan12, touching, overlapping, Case, cases, Says, CaseHolds, CasesHold}

@@ -7,7 +7,7 @@ use lib.ListN.{length, drop}
 use Rattle.interval_graph.specs.Numbers.{numbersOf}
 use Rattle.wire.specs.LittleEndian.{bytes16}
 use Rattle.plan.specs.File.{planNumber, windowCount}
-use Rattle.plan.specs.Overlap.{overlaps}
+use Rattle.overlap.specs.Overlap.{overlaps}
 use Rattle.tag_bytes.specs.Fields.{tagBytes, shortBytes}
 use Rattle.numbering.specs.Tables.{numbersAt}
 use Rattle.numbering.proofs.Filled.{Rooms}

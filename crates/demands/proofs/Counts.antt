@@ -20,10 +20,10 @@ use Rattle.interval_graph.proofs.ShortestChain.{chain-least, chain-earliest-sho
 use Rattle.interval_graph.proofs.ShortestChain.{least-is-chain, chain-empty-iff-apart, root-joined, joined-root}
 use Rattle.refusals.specs.Question.{refusalBy, question, from, firstNo, positionQuestion, positionQuestions, roomQuestion}
 use Rattle.plan.specs.File.{planNumber, windowCount}
-use Rattle.plan.specs.Overlap.{overlaps}
+use Rattle.overlap.specs.Overlap.{overlaps}
 use Rattle.plan.specs.Validation.{AcceptedPlan, validateAnswerOf}
 use Rattle.plan.proofs.Accepted.{accepted-validated}
-use Rattle.plan.proofs.Overlap.{interval-order}
+use Rattle.overlap.proofs.Overlap.{interval-order}
 use Rattle.plan.proofs.Calls.{plan-accepted}
 use Rattle.tag.specs.declared.pairs.PairAnswer.{PairAnswer}
 use Rattle.tag.specs.declared.pairs.PairAnswer.the-variants as PairAnswer

@@ -8,10 +8,10 @@ use Rattle.sequences.proofs.Tests.{true-false-absurd}
 use Rattle.interval_graph.proofs.Plan12.{definitions}
 use Rattle.refusals.specs.Question.{allYes}
 use Rattle.plan.specs.{declared.windows.Window.Window, File.minimumHandover, File.windowAt, File.endOf, File.fileOf}
-use Rattle.plan.specs.Overlap.{overlaps, overlapInOrder, sharesMinute}
-use Rattle.plan.proofs.Plan12.{meaning}
+use Rattle.overlap.specs.Overlap.{overlaps, overlapInOrder, sharesMinute}
+use Rattle.overlap.proofs.Plan12.{meaning}
 use Rattle.plan.proofs.Accepted.{accepted-sound}
-use Rattle.plan.proofs.Overlap.{overlaps-minimum, minimum-overlaps, overlaps-in-order, interval-order, as-before}
+use Rattle.overlap.proofs.Overlap.{overlaps-minimum, minimum-overlaps, overlaps-in-order, interval-order, as-before}
 use Rattle.minutes.specs.Tables.{parentOf, lastOf}
 use Rattle.numbering.specs.Tables.{componentOf, depthOf, rankOf, lastRankOf, numbersAt}
 use Rattle.path.specs.{Chain.chainBetween, Neighbours.neighboursOf}

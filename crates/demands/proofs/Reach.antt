@@ -7,8 +7,10 @@ use Rattle.interval_graph.specs.{Reach.Farthest, Reach.reach, Reach.smaller, Re
 use Rattle.interval_graph.proofs.{Reach.reach-bound, ShortestChain.joined-iff-component}
 use Rattle.interval_graph.proofs.Farthest.{reach-far, far-farthest, farthest-unique, farthest-alone, farthest-windows}
 use Rattle.refusals.specs.Question.{question, firstNo, positionQuestion}
-use Rattle.plan.specs.{File.windowCount, Overlap.overlaps, Validation.AcceptedPlan, Validation.validateAnswerOf}
-use Rattle.plan.proofs.{Accepted.accepted-validated, Calls.plan-accepted, Overlap.interval-order}
+use Rattle.plan.specs.{File.windowCount, Validation.AcceptedPlan, Validation.validateAnswerOf}
+use Rattle.overlap.specs.Overlap.{overlaps}
+use Rattle.plan.proofs.{Accepted.accepted-validated, Calls.plan-accepted}
+use Rattle.overlap.proofs.Overlap.{interval-order}
 use Rattle.reaching.specs.Reach.{reachQuestions, reachIn, reachOf, reachAnswerOf}
 use Rattle.reaching.specs.declared.answers.ReachAnswer.the-variants as ReachAnswer
 use Rattle.demands.specs.Reach.{ReachExact, Components, ReachBounds}

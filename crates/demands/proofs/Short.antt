@@ -13,10 +13,11 @@ use Rattle.refusals.proofs.Question.{first-append, all-first}
 use Rattle.plan.specs.File.{planNumber, windowCount}
 use Rattle.plan.specs.Validation.{AcceptedPlan}
 use Rattle.plan.specs.Even.{evenQuestions}
-use Rattle.plan.proofs.Plan12.{meaning}
-use Rattle.plan.proofs.Overlap.{interval-order}
+use Rattle.overlap.proofs.Plan12.{meaning}
+use Rattle.overlap.proofs.Overlap.{interval-order}
 use Rattle.plan.proofs.Calls.{plan-passed}
-use Rattle.plan.proofs.Even.{even-ends, ends-even, even-lasts}
+use Rattle.plan.proofs.Even.{even-ends, ends-even}
+use Rattle.overlap.proofs.Even.{even-lasts}
 use Rattle.tag_bytes.specs.Fields.{shortLength}
 use Rattle.tag_bytes.proofs.TagFile.{length-shortTagFile, shortTagFile-part}
 use Rattle.tag_bytes.proofs.Writing.{shortBytes-read, within-short, short-reads-back, short-writes-back}

@@ -9,7 +9,7 @@ use Rattle.interval_graph.proofs.Bounds.{numbers-small}
 use Rattle.plan.specs.File.{planNumber, windowCount}
 use Rattle.plan.specs.Validation.{AcceptedPlan}
 use Rattle.plan.proofs.Accepted.{accepted-sound}
-use Rattle.plan.proofs.Overlap.{interval-order}
+use Rattle.overlap.proofs.Overlap.{interval-order}
 use Rattle.tag_bytes.specs.Fields.{numbers, withinLimit}
 use Rattle.tag_bytes.specs.Writing.{afterWrite}
 use Rattle.tag_bytes.proofs.Fields.{limit-within, length-tagBytes}

@@ -3,7 +3,8 @@
 use Prim.Native.Nat.{ℕ, _<_}
 use mathlib.Core.{Path._≡_, Logic._↔_, List.List}
 use lib.ListN.{drop}
-use Rattle.plan.specs.{File.windowCount, Overlap.overlaps, Validation.AcceptedPlan}
+use Rattle.plan.specs.{File.windowCount, Validation.AcceptedPlan}
+use Rattle.overlap.specs.Overlap.{overlaps}
 use Rattle.sameness.specs.Sameness.{sameAnswerOf}
 use Rattle.sameness.specs.declared.SameAnswer.the-variants as SameAnswer
 use Rattle.demands.specs.EndToEnd.{tagAt}

@@ -3,7 +3,8 @@
 use Prim.Native.Nat.{ℕ, _<_}
 use mathlib.Core.{Path._≡_, Logic._⊎_, List.List, List.[], List._∷_, List.List·Memᴰ}
 use Rattle.interval_graph.specs.{Chain.Joined, Chain.LeastHandovers, Numbers.Outcome, Numbers.apart, Numbers.no-chain}
-use Rattle.plan.specs.{declared.windows.Window.Window, File.windowCount, File.fileOf, Overlap.overlaps, Validation.AcceptedPlan}
+use Rattle.plan.specs.{declared.windows.Window.Window, File.windowCount, File.fileOf, Validation.AcceptedPlan}
+use Rattle.overlap.specs.Overlap.{overlaps}
 use Rattle.numbering.specs.Tables.{componentCount}
 use Rattle.path.specs.Chain.{chainBetween}
 

@@ -8,7 +8,8 @@ use Rattle.interval_graph.specs.Tree.{component}
 use Rattle.wire.specs.LittleEndian.{bytes16}
 use Rattle.plan.specs.declared.windows.Window.{Window}
 use Rattle.plan.specs.File.{planNumber, windowCount, minimumHandover, windowAt}
-use Rattle.plan.specs.{Overlap.overlaps, Validation.AcceptedPlan}
+use Rattle.plan.specs.Validation.{AcceptedPlan}
+use Rattle.overlap.specs.Overlap.{overlaps}
 use Rattle.tag_bytes.specs.{Fields.tagLength, TagFile.tagFile}
 use Rattle.numbering.specs.Tables.{numbersAt}
 use Rattle.tree.specs.Build.{buildAnswerOf, afterTags}

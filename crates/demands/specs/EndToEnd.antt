@@ -7,7 +7,8 @@ use mathlib.Core.{Path._≡_, Logic._↔_, List.List, List._++_}
 use lib.ListN.{length, take}
 use Rattle.interval_graph.specs.Chain.{firstEntry, handovers, Joined, LeastHandovers, EarliestShortest}
 use Rattle.refusals.specs.{declared.Refusal.Refusal, Question.firstNo, Question.positionQuestions}
-use Rattle.plan.specs.{File.windowCount, Overlap.overlaps, Validation.planQuestions, Validation.AcceptedPlan}
+use Rattle.plan.specs.{File.windowCount, Validation.planQuestions, Validation.AcceptedPlan}
+use Rattle.overlap.specs.Overlap.{overlaps}
 use Rattle.tag_bytes.specs.TagFile.{tagFile, lookupPart}
 use Rattle.tag.specs.{declared.pairs.PairAnswer.PairAnswer, Pairing.pairAnswerOf}
 use Rattle.tag.specs.declared.pairs.PairAnswer.the-variants as PairAnswer

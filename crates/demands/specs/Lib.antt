@@ -15,7 +15,7 @@
 --
 -- What to read, in this order, and what it rests on:
 --   EndToEnd  demand 3, of a call that runs all of it. It rests on chains (interval_graph/specs/Chain), windows and their bytes
---             (plan/specs/File, wire/specs/LittleEndian), overlap (plan/specs/Overlap) and acceptance (plan/specs/Validation,
+--             (plan/specs/File, wire/specs/LittleEndian), overlap (overlap/specs/Overlap) and acceptance (plan/specs/Validation,
 --             refusals/specs/Question), and on nothing else: tree, tags, rule and walk need no belief, since this is proved of them
 --   Tree      demand 2. It rests also on interval_graph/specs/{Forest, Tree}, up to rank, on sequences/specs and on tag_bytes/specs/Fields
 --   Refusals  demand 1. It rests on the questions of each call: …Questions in plan, tag_bytes, tag, short_tag, minutes, tree, even_tags,
@@ -25,7 +25,7 @@
 --             interval_graph/specs/Tree, up to rank, and on tag_bytes/specs/Fields
 --   Cases     paper 01's cases marked P, as one table
 --   Minimum   paper 02, Q-2: the minimum handover. What it says of the plans of before rests on paper 01's overlap, `sharesMinute`
---             (plan/specs/Overlap)
+--             (overlap/specs/Overlap)
 --   Page      paper 02, Q-4: a page of pairs. It rests on page/specs/Page, and what it says of a plan's tag file on what EndToEnd rests on
 --   Reach     paper 02, Q-5: reach exactly. It rests on chains (interval_graph/specs/Reach, `Farthest`), and what stays of paper 01's on
 --             depth (interval_graph/specs/Forest)

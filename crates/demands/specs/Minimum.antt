@@ -9,7 +9,8 @@ use Rattle.interval_graph.specs.{Chain.LeastHandovers, Order.IntervalOrder, Wal
 use Rattle.interval_graph.specs.Tree.{parent, last, component, depth, rank, lastRank}
 use Rattle.interval_graph.specs.Numbers.{numbersOf, apart, no-chain}
 use Rattle.plan.specs.{declared.windows.Window.Window, File.planNumber, File.windowCount, File.minimumHandover, File.windowLength}
-use Rattle.plan.specs.{File.windowAt, File.endOf, File.fileOf, Overlap.sharedMinutes, Overlap.overlaps, Overlap.sharesMinute}
+use Rattle.plan.specs.File.{windowAt, endOf, fileOf}
+use Rattle.overlap.specs.Overlap.{sharedMinutes, overlaps, sharesMinute}
 use Rattle.plan.specs.{Validation.minimumPasses, Validation.AcceptedPlan}
 use Rattle.minutes.specs.Tables.{parentOf, lastOf}
 use Rattle.numbering.specs.Tables.{componentOf, depthOf, rankOf, lastRankOf, numbersAt}

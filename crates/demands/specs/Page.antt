@@ -5,7 +5,8 @@ use mathlib.Core.{Path._≡_, Logic._↔_, List.List, List.map}
 use lib.ListN.{length, getD}
 use Rattle.interval_graph.specs.Chain.{Joined, LeastHandovers}
 use Rattle.refusals.specs.declared.Refusal.{Refusal}
-use Rattle.plan.specs.{File.windowCount, Overlap.overlaps, Validation.AcceptedPlan}
+use Rattle.plan.specs.{File.windowCount, Validation.AcceptedPlan}
+use Rattle.overlap.specs.Overlap.{overlaps}
 use Rattle.tag_bytes.specs.TagFile.{tagFile}
 use Rattle.tag.specs.Pairing.{pairAtAnswerOf}
 use Rattle.tag.specs.declared.pairs.PairAnswer.the-variants as PairAnswer

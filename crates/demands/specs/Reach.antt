@@ -3,7 +3,8 @@
 use Prim.Native.Nat.{ℕ, _<_, _≤_}
 use mathlib.Core.{Path._≡_, Logic._↔_, List.List}
 use Rattle.interval_graph.specs.{Chain.Joined, Chain.LeastHandovers, Tree.component, Reach.Farthest, Reach.reachBound}
-use Rattle.plan.specs.{File.windowCount, Overlap.overlaps, Validation.AcceptedPlan}
+use Rattle.plan.specs.{File.windowCount, Validation.AcceptedPlan}
+use Rattle.overlap.specs.Overlap.{overlaps}
 use Rattle.tag.specs.Pairing.{pairAnswerOf}
 use Rattle.tag.specs.declared.pairs.PairAnswer.the-variants as PairAnswer
 use Rattle.reaching.specs.Reach.{reachAnswerOf}

@@ -5,7 +5,8 @@ use mathlib.Core.{Path._≡_, Logic._↔_, List.List, List._++_}
 use lib.ListN.{length, getD, take, drop}
 use Rattle.sequences.specs.Table.{overwritten}
 use Rattle.interval_graph.specs.{Chain.Joined, Chain.LeastHandovers, Numbers.numbersOf}
-use Rattle.plan.specs.{File.planNumber, File.windowCount, File.windowAt, File.endOf, Overlap.overlaps}
+use Rattle.plan.specs.File.{planNumber, windowCount, windowAt, endOf}
+use Rattle.overlap.specs.Overlap.{overlaps}
 use Rattle.plan.specs.{Validation.AcceptedPlan, Even.EvenPlan}
 use Rattle.tag_bytes.specs.{declared.reader.ShortTag.ShortTag, Fields.shortLength, Fields.shortTagWith}
 use Rattle.tag_bytes.specs.{Reading.shortReadAnswerOf, Writing.shortWriteAnswerOf, Writing.afterShortWrite}

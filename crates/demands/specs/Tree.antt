@@ -6,7 +6,8 @@ use mathlib.Core.{Path._≡_, List.List, List._++_}
 use lib.ListN.{length, getD, take, drop}
 use Rattle.sequences.specs.Table.{table, overwritten}
 use Rattle.interval_graph.specs.{Tree.parent, Tree.component, Tree.depth, Tree.rank, Tree.lastRank, Numbers.Numbers, Numbers.numbersOf}
-use Rattle.plan.specs.{File.planNumber, File.windowCount, Overlap.overlaps, Validation.AcceptedPlan}
+use Rattle.plan.specs.{File.planNumber, File.windowCount, Validation.AcceptedPlan}
+use Rattle.overlap.specs.Overlap.{overlaps}
 use Rattle.tag_bytes.specs.{declared.reader.Tag.Tag, Fields.tagLength, Fields.numbers, Fields.tagWith, TagFile.tagFile}
 use Rattle.tag_bytes.specs.{Reading.readAnswerOf, Writing.writeAnswerOf, Writing.afterWrite}
 use Rattle.tag_bytes.specs.declared.reader.TagRead.the-variants as TagRead

@@ -5,7 +5,8 @@ use Prim.Native.Nat.{ℕ}
 use mathlib.Core.{Path._≡_, Path.refl, List.[], List._∷_}
 use Rattle.sequences.specs.Table.{table, overwritten}
 use Rattle.refusals.specs.Question.{refusalBy, refusalAbout, roomQuestion}
-use Rattle.plan.proofs.Plan12.{file, meaning}
+use Rattle.plan.proofs.Plan12.{file}
+use Rattle.overlap.proofs.Plan12.{meaning}
 use Rattle.minutes.specs.declared.answers.TableAnswer.the-variants.{Filled, Refused}
 use Rattle.minutes.specs.Tables.{lastOf, parentOf}
 use Rattle.plan.specs.{declared.windows.Window.Window, File.fileOf, Even.endBefore, Even.evenQuestion, Even.evenQuestions}

@@ -13,12 +13,13 @@ use Rattle.sequences.proofs.Search.{least-unique}
 use Rattle.sequences.proofs.Table.{Filling, filling-start, filling-turn}
 use Rattle.interval_graph.specs.Tree.{last, parent}
 use Rattle.interval_graph.proofs.Last.{last-cases, last-ge, overlap-last}
-use Rattle.plan.specs.Overlap.{overlaps}
+use Rattle.overlap.specs.Overlap.{overlaps}
 use Rattle.plan.specs.Validation.{greatestCount}
 use Rattle.plan.specs.AcceptedWindows.{AcceptedWindows}
 use Rattle.plan.proofs.Accepted.{accepted-sound, offsets-sorted}
-use Rattle.plan.proofs.Overlap.{overlaps-bound}
-use Rattle.plan.proofs.Counted.{windows-few, windows-order, bound-fits, own-offset}
+use Rattle.overlap.proofs.Overlap.{overlaps-bound}
+use Rattle.plan.proofs.Counted.{windows-few}
+use Rattle.overlap.proofs.Counted.{windows-order, bound-fits, own-offset}
 use Rattle.minutes.specs.Tables.{offsetAt, boundAt, parentOf, lastOf}
 use Rattle.minutes.specs.Passes.{Prepared, FirstPast, Sorted, LastBefore}
 

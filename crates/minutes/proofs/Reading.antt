@@ -8,10 +8,11 @@ use Rattle.sequences.specs.Table.{table, overwritten}
 use Rattle.sequences.proofs.Table.{length-table, length-overwritten, overwritten-past, overwritten-holds}
 use Rattle.plan.specs.declared.windows.Window.{Window}
 use Rattle.plan.specs.File.{windowCount, minimumHandover, windowAt, endOf}
-use Rattle.plan.specs.Overlap.{boundOf}
+use Rattle.overlap.specs.Overlap.{boundOf}
 use Rattle.plan.specs.Validation.{greatestCount, AcceptedPlan}
 use Rattle.plan.specs.AcceptedWindows.{AcceptedWindows}
-use Rattle.plan.proofs.Counted.{windows-few, minimum-within, bound-fits}
+use Rattle.plan.proofs.Counted.{windows-few, minimum-within}
+use Rattle.overlap.proofs.Counted.{bound-fits}
 use Rattle.minutes.specs.Tables.{offsetAt, boundAt}
 use Rattle.minutes.specs.Passes.{Prepared}
 

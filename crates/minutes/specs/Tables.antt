@@ -5,7 +5,7 @@ use Prim.Native.Nat.{ℕ}
 use mathlib.Core.List.{List}
 use Rattle.interval_graph.specs.Tree.{last, parent}
 use Rattle.plan.specs.File.{windowCount, minimumHandover, windowAt}
-use Rattle.plan.specs.Overlap.{overlaps, boundOf}
+use Rattle.overlap.specs.Overlap.{overlaps, boundOf}
 
 module _ (file : List ℕ) where
   unfoldable pub offsetAt : ℕ → ℕ

@@ -17,9 +17,9 @@ use Rattle.interval_graph.proofs.Last.{last-below}
 use Rattle.refusals.specs.declared.Refusal.{Refusal}
 use Rattle.refusals.proofs.Question.{first-map}
 use Rattle.plan.specs.File.{planNumber, windowCount}
-use Rattle.plan.specs.Overlap.{overlaps}
+use Rattle.overlap.specs.Overlap.{overlaps}
 use Rattle.plan.specs.AcceptedWindows.{AcceptedWindows}
-use Rattle.plan.proofs.Counted.{windows-order}
+use Rattle.overlap.proofs.Counted.{windows-order}
 use Rattle.forest.specs.Parents.{parentIn, lookedUp}
 use Rattle.forest.proofs.Parented.{held-parents}
 use Rattle.minutes.specs.declared.answers.TableAnswer.{TableAnswer}

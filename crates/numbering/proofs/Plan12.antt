@@ -4,7 +4,8 @@
 use mathlib.Core.{Path._≡_, Path.refl, List.[], List._∷_}
 use Rattle.sequences.specs.Table.{table, overwritten}
 use Rattle.refusals.specs.Question.{refusalBy, roomQuestion}
-use Rattle.plan.proofs.Plan12.{file, meaning}
+use Rattle.plan.proofs.Plan12.{file}
+use Rattle.overlap.proofs.Plan12.{meaning}
 use Rattle.minutes.specs.SingleTable.{tableQuestions}
 use Rattle.numbering.specs.declared.answers.BuildAnswer.the-variants.{Built, Refused}
 use Rattle.numbering.specs.Tables.{componentOf, depthOf, rankOf, lastRankOf, componentCount, numbersAt}

@@ -6,7 +6,7 @@ use Rattle.sequences.specs.Search.{count}
 use Rattle.interval_graph.specs.Tree.{isRoot, component, depth, rank, lastRank}
 use Rattle.interval_graph.specs.Numbers.{Numbers, numbersOf}
 use Rattle.plan.specs.File.{planNumber, windowCount}
-use Rattle.plan.specs.Overlap.{overlaps}
+use Rattle.overlap.specs.Overlap.{overlaps}
 
 module _ (file : List ℕ) where
   unfoldable pub componentOf : ℕ → ℕ

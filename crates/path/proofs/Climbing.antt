@@ -18,7 +18,7 @@ use Rattle.interval_graph.proofs.Depth.{fixed-stays}
 use lib.ListN.{length, getD}
 use Rattle.plan.specs.declared.windows.Window.{Window}
 use Rattle.plan.specs.File.{windowCount, windowAt}
-use Rattle.plan.specs.Overlap.{overlaps}
+use Rattle.overlap.specs.Overlap.{overlaps}
 use Rattle.plan.specs.Validation.{greatestCount, AcceptedPlan}
 use Rattle.plan.proofs.Accepted.{accepted-sound}
 use Rattle.minutes.specs.Tables.{boundAt, lastOf}

@@ -9,9 +9,9 @@ use Rattle.sequences.proofs.Passing.{passing-sound, passing-complete}
 use Rattle.interval_graph.specs.Chain.{Joined, EarliestShortest}
 use Rattle.interval_graph.proofs.ShortestChain.{chain-earliest-shortest, chain-empty-iff-apart}
 use Rattle.plan.specs.File.{windowCount}
-use Rattle.plan.specs.Overlap.{overlaps}
+use Rattle.overlap.specs.Overlap.{overlaps}
 use Rattle.plan.specs.Validation.{AcceptedPlan}
-use Rattle.plan.proofs.Overlap.{interval-order}
+use Rattle.overlap.proofs.Overlap.{interval-order}
 use Rattle.path.specs.Chain.{chainBetween}
 use Rattle.path.specs.Neighbours.{neighboursOf}
 

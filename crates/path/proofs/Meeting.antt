@@ -12,11 +12,11 @@ use Rattle.interval_graph.specs.Order.{IntervalOrder}
 use Rattle.interval_graph.proofs.Last.{last-ge, last-below, overlap-last, last-overlap}
 use Rattle.plan.specs.declared.windows.Window.{Window}
 use Rattle.plan.specs.File.{windowCount, minimumHandover, windowAt, endOf}
-use Rattle.plan.specs.Overlap.{overlaps, overlapInOrder}
+use Rattle.overlap.specs.Overlap.{overlaps, overlapInOrder}
 use Rattle.plan.specs.Validation.{greatestCount, AcceptedPlan}
 use Rattle.plan.proofs.Accepted.{Sound, accepted-sound, offsets-sorted}
-use Rattle.plan.proofs.Overlap.{overlaps-in-order, overlaps-bound, interval-order}
-use Rattle.plan.proofs.Counted.{own-offset}
+use Rattle.overlap.proofs.Overlap.{overlaps-in-order, overlaps-bound, interval-order}
+use Rattle.overlap.proofs.Counted.{own-offset}
 use Rattle.minutes.specs.Tables.{boundAt, lastOf}
 
 -- The search for the last of u: a window that begins before its bound, and one behind it that does not, or the end of the plan.

@@ -21,10 +21,11 @@ use Rattle.refusals.specs.Question.{refusalBy, question, positionQuestion, room
 use Rattle.plan.specs.declared.questions.Validation.{Validation}
 use Rattle.plan.specs.declared.questions.Validation.the-variants as Validation
 use Rattle.plan.specs.File.{windowCount}
-use Rattle.plan.specs.Overlap.{overlaps}
+use Rattle.overlap.specs.Overlap.{overlaps}
 use Rattle.plan.specs.Validation.{AcceptedPlan, validateAnswerOf}
 use Rattle.plan.specs.AcceptedWindows.{AcceptedWindows}
-use Rattle.plan.proofs.{Overlap.interval-order, Calls.plan-refused, Calls.plan-passed}
+use Rattle.plan.proofs.Calls.{plan-refused, plan-passed}
+use Rattle.overlap.proofs.Overlap.{interval-order}
 use Rattle.minutes.specs.Tables.{lastOf}
 use Rattle.path.specs.declared.answers.NeighboursAnswer.the-variants.{Neighbours, Refused}
 use Rattle.path.specs.Neighbours.{neighboursOf, neighboursQuestions, neighboursAnswerOf}

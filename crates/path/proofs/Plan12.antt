@@ -3,7 +3,8 @@
 use mathlib.Core.{Path._≡_, Path.refl, List.[], List._∷_}
 use Rattle.interval_graph.specs.Walk.{climb, walk, chainOf}
 use Rattle.sequences.specs.Search.{passing}
-use Rattle.plan.proofs.Plan12.{file, meaning}
+use Rattle.plan.proofs.Plan12.{file}
+use Rattle.overlap.proofs.Plan12.{meaning}
 use Rattle.path.specs.declared.answers.ChainAnswer.the-variants.{Chain, NoChain, Refused}
 use Rattle.path.specs.declared.answers.NeighboursAnswer.the-variants as NeighboursAnswer
 use Rattle.refusals.specs.Question.{refusalBy, refusalFrom, from, positionQuestion, positionQuestions, roomQuestion}

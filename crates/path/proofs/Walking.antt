@@ -19,7 +19,7 @@ use Rattle.interval_graph.proofs.Ancestor.{ancestor-zero, ancestor-suc, ancesto
 use Rattle.interval_graph.proofs.ShortestChain.{chain-same, chain-walk, chain-none}
 use Rattle.refusals.specs.Question.{refusalBy, question, roomQuestion, firstNo}
 use Rattle.plan.specs.File.{windowCount}
-use Rattle.plan.specs.Overlap.{overlaps}
+use Rattle.overlap.specs.Overlap.{overlaps}
 use Rattle.path.specs.declared.answers.ChainAnswer.the-variants.{Chain, NoChain, Refused}
 use Rattle.path.specs.Steps.{stepsBefore, walked, chainRest}
 use Rattle.path.specs.Chain.{chainBetween, chainFound, afterChain}

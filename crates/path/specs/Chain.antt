@@ -8,7 +8,7 @@ use Rattle.sequences.specs.Table.{overwritten}
 use Rattle.interval_graph.specs.Walk.{chainOf}
 use Rattle.refusals.specs.Question.{Question, positionQuestions, roomQuestion, firstNo}
 use Rattle.plan.specs.File.{windowCount}
-use Rattle.plan.specs.Overlap.{overlaps}
+use Rattle.overlap.specs.Overlap.{overlaps}
 use Rattle.plan.specs.Validation.{planQuestions}
 use Rattle.path.specs.declared.answers.ChainAnswer.{ChainAnswer}
 use Rattle.path.specs.declared.answers.ChainAnswer.the-variants.{Chain, NoChain, Refused}

@@ -8,7 +8,7 @@ use Rattle.sequences.specs.Search.{passing}
 use Rattle.sequences.specs.Table.{overwritten}
 use Rattle.refusals.specs.Question.{Question, positionQuestion, roomQuestion, firstNo}
 use Rattle.plan.specs.File.{windowCount}
-use Rattle.plan.specs.Overlap.{overlaps}
+use Rattle.overlap.specs.Overlap.{overlaps}
 use Rattle.plan.specs.Validation.{planQuestions}
 use Rattle.path.specs.declared.answers.NeighboursAnswer.{NeighboursAnswer}
 use Rattle.path.specs.declared.answers.NeighboursAnswer.the-variants.{Neighbours, Refused}

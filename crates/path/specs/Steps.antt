@@ -10,7 +10,7 @@ use Rattle.interval_graph.specs.Tree.{parent, ancestor}
 use Rattle.interval_graph.specs.Walk.{climb}
 use Rattle.refusals.specs.Question.{roomQuestion, firstNo}
 use Rattle.plan.specs.File.{windowCount}
-use Rattle.plan.specs.Overlap.{overlaps}
+use Rattle.overlap.specs.Overlap.{overlaps}
 use Rattle.plan.specs.Validation.{AcceptedPlan}
 use Rattle.path.specs.declared.answers.ChainAnswer.{ChainAnswer}
 use Rattle.path.specs.declared.answers.ChainAnswer.the-variants.{Refused}

@@ -14,7 +14,7 @@ ghost use Rattle.sequences.specs.Search.{passing};
 ghost use Rattle.sequences.specs.Table.{table, overwritten};
 ghost use Rattle.wire.specs.LittleEndian.{placed};
 ghost use Rattle.plan.specs.File.{windowCount};
-ghost use Rattle.plan.specs.Overlap.{overlaps};
+ghost use Rattle.overlap.specs.Overlap.{overlaps};
 ghost use Rattle.plan.specs.Validation.{AcceptedPlan};
 ghost use Rattle.plan.specs.AcceptedWindows.{AcceptedWindows};
 ghost use Rattle.minutes.specs.Tables.{lastOf};

@@ -8,7 +8,7 @@ ghost use lib.ListN.{length};
 ghost use Rattle.sequences.specs.Table.{overwritten};
 ghost use Rattle.interval_graph.specs.Walk.{climb};
 ghost use Rattle.plan.specs.File.{windowCount};
-ghost use Rattle.plan.specs.Overlap.{overlaps};
+ghost use Rattle.overlap.specs.Overlap.{overlaps};
 ghost use Rattle.path.specs.Steps.{Parented, stepsBefore, walked};
 
 // The steps up from the later window to one that is not past the earlier one's last; `later + 1` where the root is.

@@ -1,27 +1,21 @@
 -- What is known of an accepted plan's file by the number of its windows, and that a validation hands it on; and where each of its
 -- windows lies, which whoever reads windows cites.
--- Vocabulary: windows-few, windows-order, validated-windows, window-within, minimum-within, bound-fits, own-offset, end-fits,
--- needed-least.
+-- Vocabulary: windows-few, validated-windows, window-within, minimum-within, end-fits, needed-least.
 -- Assumes nothing.
 use Prim.Native.Nat.{ℕ, _+_, _-_, _≤_, _<_}
 use mathlib.Core.{Path._≡_, Path.sym, Path._∙_, List.List}
 use native.Mathlib.Omega.{arith}
-use Rattle.interval_graph.specs.Order.{IntervalOrder}
 use Rattle.plan.specs.declared.questions.Validation.{Validation, the-variants.Accepted}
 use lib.ListN.{length}
 use Rattle.plan.specs.File.{windowLength, windowPlace, windowCount, minimumHandover, windowAt, endOf}
-use Rattle.plan.specs.Overlap.{overlaps, boundOf}
 use Rattle.plan.specs.Validation.{greatestCount, AcceptedPlan, validateAnswerOf}
 use Rattle.plan.specs.AcceptedWindows.{AcceptedWindows}
-use Rattle.plan.proofs.{Accepted.accepted-sound, Overlap.interval-order, Calls.accepted-numbers, Calls.accepted-plan}
+use Rattle.plan.proofs.{Accepted.accepted-sound, Calls.accepted-numbers, Calls.accepted-plan}
 
 module _ {file : List ℕ} {windows : ℕ} (p : AcceptedWindows file windows) where
   -- An accepted plan has at most so many windows, so tables of that many entries hold them.
   pub windows-few : windows ≤ greatestCount
   windows-few = omega (arith, p .counted, accepted-sound file (p .accepted) .few)
-
-  pub windows-order : IntervalOrder windows (overlaps file)
-  windows-order = rw (p .counted) (interval-order file (p .accepted))
 
 module _ (file : List ℕ) (answer : Validation) (validated : answer ≡ validateAnswerOf file) (plan windows : ℕ) (e : answer ≡ Accepted plan windows) where
   pub validated-windows : AcceptedWindows file windows
@@ -37,19 +31,10 @@ module _ (file : List ℕ) (ok : AcceptedPlan file) (v : ℕ) (h : v < windowCou
   pub window-within : (windowPlace v + windowLength ≤ length file) × (v < greatestCount)
   window-within = (omega (arith, accepted-sound file ok .whole), omega (arith, accepted-sound file ok .few))
 
-  -- The minimum is at least 1 and not past its end, so that its bound is no difference below 0; the bound fits 32 bits,
+  -- The minimum is at least 1 and not past its end.
   pub minimum-within : (1 ≤ minimumHandover file) × (minimumHandover file - 1 ≤ endOf (windowAt file v))
   unfolding endOf
   minimum-within = (accepted-sound file ok .least, omega (arith, accepted-sound file ok .long v h))
-
-  pub bound-fits : boundOf (minimumHandover file) (windowAt file v) < 4294967296
-  unfolding boundOf
-  bound-fits = omega (arith, accepted-sound file ok .early v h)
-
-  -- and it begins before it.
-  pub own-offset : windowAt file v .offset < boundOf (minimumHandover file) (windowAt file v)
-  unfolding boundOf endOf
-  own-offset = omega (arith, accepted-sound file ok .least, accepted-sound file ok .long v h)
 
   -- Its end fits 32 bits, and what an earlier window must end at is no greater.
   pub end-fits : endOf (windowAt file v) < 4294967296

@@ -1,23 +1,16 @@
--- Even plans: no end falls from one window to the next, and so no last does, which is all that the theory of short tags asks. And
--- the pass that asks question 13, before the window at a position.
--- Vocabulary: even-ends, ends-even, even-lasts; Rising, rising-*.
+-- Even plans: no end falls from one window to the next. And the pass that asks question 13, before the window at a position.
+-- Vocabulary: even-ends, ends-even; Rising, rising-*.
 -- Assumes nothing.
 use Prim.Native.Nat.{ℕ, zero, suc, _+_, _≤_, _<_}
-use mathlib.Core.{Bool.true, Path._≡_, Path.refl, Path.sym, Path._∙_, Logic.⊎-elim, List.List, List.[], List._∷_, List.List·Memᴰ·head}
+use mathlib.Core.{Bool.true, Path._≡_, Path.refl, List.List, List.[], List._∷_, List.List·Memᴰ·head}
 use native.Mathlib.{Omega.arith, Numerals.add-one}
 use borrow.Author.Tests.{leb-true, le-leb, lt-leb}
-use Rattle.sequences.proofs.Tests.{lt-or-ge}
-use Rattle.interval_graph.specs.Tree.{last, LastsRise}
-use Rattle.interval_graph.proofs.Last.{last-cases, last-ge, overlap-last}
 use Rattle.refusals.specs.declared.Asked.the-variants.{Passed, Refused}
 use Rattle.refusals.specs.Question.{Question, refusalBy, refusalAbout, question, firstNo, allYes, askedOf}
 use Rattle.refusals.proofs.Question.{Asking, asking-start, asking-turn, asking-refused, asking-end, all-member, all-each, each-all}
 use Rattle.plan.specs.declared.windows.Window.{Window}
-use Rattle.plan.specs.File.{windowCount, minimumHandover, windowAt, endOf}
-use Rattle.plan.specs.Overlap.{overlaps, overlapInOrder}
-use Rattle.plan.specs.Validation.{AcceptedPlan}
+use Rattle.plan.specs.File.{windowCount, windowAt, endOf}
 use Rattle.plan.specs.Even.{endBefore, evenQuestion, evenQuestions, EvenPlan}
-use Rattle.plan.proofs.Overlap.{overlaps-in-order, interval-order}
 
 -- The question of each window of a file.
 abbrev pub endsAsked : List ℕ → ℕ → List Question
@@ -38,18 +31,6 @@ ends-even file rise = each-all (endsAsked file) 0 (windowCount file) asked
     asked : (v : ℕ) → 0 ≤ v → v < 0 + windowCount file → allYes (endsAsked file v) ≡ true
     asked zero l h = rw (le-leb 0 (endOf (windowAt file 0)) (omega arith))
     asked (suc v) l h = rw (le-leb (endOf (windowAt file v)) (endOf (windowAt file (suc v))) (rise v (omega arith)))
-
--- So no last falls: what begins early enough before the end of a window does so before that of the next.
-pub even-lasts : (file : List ℕ) → AcceptedPlan file → EvenPlan file → LastsRise (windowCount file) (overlaps file)
-unfolding overlapInOrder
-even-lasts file ok even v h =
-    let n = windowCount file in let z = last n (overlaps file) v in let order = interval-order file ok in
-    let full = windowAt file z .offset + minimumHandover file in ⊎-elim (λ c. ⊎-elim
-    (λ l. let early = leb-true full (endOf (windowAt file v)) (sym (overlaps-in-order file ok v z (c .0) (c .1)) ∙ c .2) in
-    overlap-last order (suc v) z l (c .1) (overlaps-in-order file ok (suc v) z l (c .1)
-    ∙ le-leb full (endOf (windowAt file (suc v))) (omega (arith, early, even-ends file even v h))))
-    (λ l. omega (arith, l, last-ge order (suc v))) (lt-or-ge (suc v) z))
-    (λ c. omega (arith, c, last-ge order (suc v))) (last-cases n (overlaps file) v)
 
 -- What a window's question is answered.
 module _ (before : ℕ) (w : Window) where

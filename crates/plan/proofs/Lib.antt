@@ -3,8 +3,7 @@
 --   Validation  what each answer of `validate` shows
 --   Accepted    what is known of an accepted plan's windows, and that no more is needed
 --   Written     the file of a list of windows
---   Overlap     overlap by minutes, by bounds, and in interval order
---   Even        even plans: ends and lasts do not fall, and the pass that asks
+--   Even        even plans: no end falls, and the pass that asks
 --   Calls       calls that validate a file and then ask more
 --   Counted     an accepted plan with so many windows
 --   Plan12      the paper's plan, by computation
@@ -12,7 +11,6 @@ pub mod Reading
 pub mod Validation
 pub mod Accepted
 pub mod Written
-pub mod Overlap
 pub mod Even
 pub mod Calls
 pub mod Counted

@@ -1,22 +1,18 @@
--- Paper 01's plan 12 as bytes: accepted, and its tree's tables come out of the definitions by computation, from the file
--- alone.
+-- Paper 01's plan 12 as bytes: accepted, by computation. And a file for each refusal of a plan.
 -- Assumes nothing.
 use Prim.Native.Nat.{ℕ}
-use mathlib.Core.{Bool.true, Bool.false, Path._≡_, Path.refl, List.List, List.[], List._∷_, List.flatMap}
-use Rattle.sequences.specs.Table.{table}
-use Rattle.interval_graph.proofs.Plan12.{definitions, row, listing}
+use mathlib.Core.{Path._≡_, Path.refl, List.List, List.[], List._∷_, List.flatMap}
 use Rattle.wire.specs.LittleEndian.{le16, le32, bytes16, bytes32}
 use Rattle.refusals.specs.Question.{refusalBy, refusalAbout, question, about, each, firstNo}
 use Rattle.plan.specs.declared.windows.Window.{Window}
 use Rattle.plan.specs.declared.questions.Validation.the-variants.{Accepted, Refused}
 use Rattle.plan.specs.File.{planNumber, windowCount, minimumHandover, windowOf, windowAt, endOf, headerBytes, windowBytes, fileOf}
-use Rattle.plan.specs.Overlap.{covers, sharedMinutes, sharing, overlaps, overlapInOrder, boundOf}
 use Rattle.refusals.specs.declared.Asked.the-variants as Asked
 use Rattle.refusals.specs.Question.{askedOf}
 use Rattle.plan.specs.Even.{endBefore, evenQuestion, evenQuestions}
 use Rattle.plan.specs.Validation.{offsetBefore, windowQuestions, fileQuestions, planQuestions, validateAnswerOf}
 
-abbrev window : ℕ → ℕ → Window
+abbrev pub window : ℕ → ℕ → Window
 window offset length = record { offset = offset; length = length }
 
 -- "Plan 12: (0, 10) (2, 3) (4, 12) (9, 2) (12, 6) (17, 1) (18, 4)."
@@ -24,19 +20,14 @@ unfoldable pub file : List ℕ
 file = fileOf 12 1 (window 0 10 ∷ window 2 3 ∷ window 4 12 ∷ window 9 2 ∷ window 12 6 ∷ window 17 1 ∷ window 18 4 ∷ [])
 
 -- What a computation on the file opens.
-unfoldable pub meaning : Unit {0}
-unfolding definitions file fileOf flatMap headerBytes windowBytes bytes16 bytes32 le16 le32 question about each firstNo planNumber
-    windowCount minimumHandover windowOf windowAt endOf covers sharedMinutes sharing overlaps offsetBefore windowQuestions fileQuestions
-    planQuestions validateAnswerOf
-meaning = tt
+unfoldable pub plan-meaning : Unit {0}
+unfolding file fileOf flatMap headerBytes windowBytes bytes16 bytes32 le16 le32 question about each firstNo planNumber windowCount
+    minimumHandover windowOf windowAt endOf offsetBefore windowQuestions fileQuestions planQuestions validateAnswerOf
+plan-meaning = tt
 
 pub plan-12-accepted : validateAnswerOf file ≡ Accepted 12 7
-unfolding meaning
+unfolding plan-meaning
 plan-12-accepted = refl
-
-pub plan-12-tables : table (row (overlaps file)) 7 ≡ listing
-unfolding meaning row listing
-plan-12-tables = refl
 
 -- Each of questions 1 to 6 by a file that fails it: four bytes; 2,049 windows, also in a short file with minimum 0; a byte too many; a
 -- length below the minimum with a falling offset; the sum 10,000,001; a falling offset. The second window is refused at position 1.
@@ -45,36 +36,28 @@ pub refusals : validateAnswerOf (0 ∷ 0 ∷ 0 ∷ 0 ∷ []) ∷ validateAnswerO
     ∷ validateAnswerOf (fileOf 0 3 (window 5 5 ∷ window 4 2 ∷ [])) ∷ validateAnswerOf (fileOf 0 1 (window 10000000 1 ∷ []))
     ∷ validateAnswerOf (fileOf 0 1 (window 5 5 ∷ window 4 5 ∷ [])) ∷ [] ≡ Refused (refusalBy 1) ∷ Refused (refusalBy 2)
     ∷ Refused (refusalBy 3) ∷ Refused (refusalAbout 1 (refusalBy 4)) ∷ Refused (refusalBy 5) ∷ Refused (refusalAbout 1 (refusalBy 6)) ∷ []
-unfolding meaning
+unfolding plan-meaning
 refusals = refl
 
 -- Question 14: a minimum of 0, also in a file of the wrong length, and 86,401; 1 and 86,400 pass.
 pub minimums : validateAnswerOf (0 ∷ 0 ∷ 0 ∷ 0 ∷ 0 ∷ 0 ∷ 0 ∷ 0 ∷ 0 ∷ []) ∷ validateAnswerOf (fileOf 0 86401 [])
     ∷ validateAnswerOf (fileOf 0 1 []) ∷ validateAnswerOf (fileOf 0 86400 []) ∷ []
     ≡ Refused (refusalBy 14) ∷ Refused (refusalBy 14) ∷ Accepted 0 0 ∷ Accepted 0 0 ∷ []
-unfolding meaning
+unfolding plan-meaning
 minimums = refl
 
--- "Two windows (0, 10) (5, 10) with minimum 5 overlap, with 6 do not; with 11 the first is refused by 4 at position 0."
-abbrev two : ℕ → List ℕ
+-- Q-2's two windows, (0, 10) (5, 10): "with 11 the first is refused by 4 at position 0."
+abbrev pub two : ℕ → List ℕ
 two minimum = fileOf 0 minimum (window 0 10 ∷ window 5 10 ∷ [])
 
-pub minimum-reached : (overlaps (two 5) 0 1 ∷ overlaps (two 6) 0 1 ∷ [] ≡ true ∷ false ∷ [])
-    × (validateAnswerOf (two 6) ∷ validateAnswerOf (two 11) ∷ [] ≡ Accepted 0 2 ∷ Refused (refusalBy 4) ∷ [])
-unfolding meaning
-minimum-reached = (refl, refl)
-
--- How overlap is computed says the same, and so does the bound that the searches form.
-pub minimum-computed :
-    (overlapInOrder 5 (window 0 10) (window 5 10) ∷ overlapInOrder 6 (window 0 10) (window 5 10) ∷ [] ≡ true ∷ false ∷ [])
-    × (boundOf 1 (window 0 10) ∷ boundOf 5 (window 0 10) ∷ boundOf 10 (window 0 10) ∷ [] ≡ 10 ∷ 6 ∷ 1 ∷ [])
-unfolding meaning overlapInOrder boundOf
-minimum-computed = (refl, refl)
+pub minimum-passed : validateAnswerOf (two 6) ∷ validateAnswerOf (two 11) ∷ [] ≡ Accepted 0 2 ∷ Refused (refusalBy 4) ∷ []
+unfolding plan-meaning
+minimum-passed = refl
 
 -- Question 13: window 1 of plan 12 ends before window 0 and is the first that does; equal ends pass; and where two ends fall the
 -- first counts, at the later window's position.
 pub evenness : askedOf (evenQuestions file) ∷ askedOf (evenQuestions (fileOf 0 1 (window 0 5 ∷ window 1 4 ∷ window 2 4 ∷ [])))
     ∷ askedOf (evenQuestions (fileOf 0 1 (window 0 5 ∷ window 1 5 ∷ window 2 3 ∷ window 3 1 ∷ []))) ∷ []
     ≡ Asked.Refused (refusalAbout 1 (refusalBy 13)) ∷ Asked.Passed ∷ Asked.Refused (refusalAbout 2 (refusalBy 13)) ∷ []
-unfolding meaning askedOf endBefore evenQuestion evenQuestions
+unfolding plan-meaning askedOf endBefore evenQuestion evenQuestions
 evenness = refl

@@ -14,7 +14,6 @@ pub use questions::Validation;
 pub use questions::ask_own;
 pub use questions::validate;
 pub use windows::Window;
-pub use windows::overlap_in_order;
 pub use windows::read_window;
 pub use windows::window_at;
 pub use windows::window_end;

@@ -1,10 +1,9 @@
-// A window of a plan file: where it stands, read and written, its end, and when it overlaps a later one.
+// A window of a plan file: where it stands, read and written, and its end.
 use crate::figures::HEADER_LENGTH;
 use crate::figures::WINDOW_LENGTH;
 ghost use mathlib.Core.Path.{_≡_};
 ghost use Rattle.wire.specs.LittleEndian.{placed};
 ghost use Rattle.plan.specs.File.{windowPlace, windowOf, windowAt, windowBytes, endOf};
-ghost use Rattle.plan.specs.Overlap.{overlapInOrder};
 
 pub struct Window {
     pub offset: u32,
@@ -58,12 +57,4 @@ pub fn window_end(window: Window) -> u64
     ensures { λ r. ⌜ r ≡ endOf window ⌝ }
 {
     window.offset as u64 + window.length as u64
-}
-
-// Whether two windows of an accepted plan with this minimum overlap, of which the first stands before the second. Sums are compared, and
-// no difference, which might lie below 0.
-pub fn overlap_in_order(minimum: u32, earlier: Window, later: Window) -> bool
-    ensures { λ r. ⌜ r ≡ overlapInOrder minimum earlier later ⌝ }
-{
-    later.offset as u64 + minimum as u64 <= window_end(earlier)
 }

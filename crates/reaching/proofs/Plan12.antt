@@ -8,7 +8,7 @@ use Rattle.interval_graph.specs.Reach.{handoversBetween, inComponent, partner, 
 use Rattle.interval_graph.proofs.Plan12.{overlaps, definitions}
 use Rattle.refusals.specs.Question.{refusalBy, positionQuestion}
 use Rattle.plan.specs.File.{fileOf}
-use Rattle.plan.proofs.Plan12.{meaning}
+use Rattle.overlap.proofs.Plan12.{meaning}
 use Rattle.reaching.specs.declared.answers.ReachAnswer.the-variants.{Reach, Refused}
 use Rattle.reaching.specs.Reach.{reachQuestions, reachIn, reachOf, reachAnswerOf}
 

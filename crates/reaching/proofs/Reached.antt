@@ -35,10 +35,12 @@ use Rattle.refusals.specs.declared.Refusal.{Refusal}
 use Rattle.refusals.specs.Question.{refusalBy, question, positionQuestion}
 use Rattle.plan.specs.declared.questions.Validation.{Validation}
 use Rattle.plan.specs.declared.questions.Validation.the-variants as Validation
-use Rattle.plan.specs.{File.windowCount, Overlap.overlaps, Validation.greatestCount, Validation.validateAnswerOf}
+use Rattle.plan.specs.{File.windowCount, Validation.greatestCount, Validation.validateAnswerOf}
+use Rattle.overlap.specs.Overlap.{overlaps}
 use Rattle.plan.specs.AcceptedWindows.{AcceptedWindows}
 use Rattle.plan.proofs.Calls.{plan-refused, one-more-no, one-more-yes}
-use Rattle.plan.proofs.{Counted.windows-few, Counted.windows-order, Accepted.accepted-validated}
+use Rattle.plan.proofs.{Counted.windows-few, Accepted.accepted-validated}
+use Rattle.overlap.proofs.Counted.{windows-order}
 use Rattle.minutes.specs.Tables.{lastOf, parentOf}
 use Rattle.reaching.specs.declared.answers.ReachAnswer.{ReachAnswer}
 use Rattle.reaching.specs.declared.answers.ReachAnswer.the-variants.{Reach, Refused}

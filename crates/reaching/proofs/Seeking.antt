@@ -9,9 +9,9 @@ use Rattle.sequences.proofs.Tests.{lt-or-ge, true-false-absurd}
 use Rattle.interval_graph.proofs.Last.{last-ge, overlap-last, last-overlap}
 use Rattle.plan.specs.declared.windows.Window.{Window}
 use Rattle.plan.specs.File.{windowCount, minimumHandover, windowAt, endOf}
-use Rattle.plan.specs.Overlap.{overlapInOrder}
+use Rattle.overlap.specs.Overlap.{overlapInOrder}
 use Rattle.plan.specs.Validation.{AcceptedPlan}
-use Rattle.plan.proofs.Overlap.{overlaps-in-order, interval-order}
+use Rattle.overlap.proofs.Overlap.{overlaps-in-order, interval-order}
 use Rattle.minutes.specs.Tables.{lastOf}
 use Rattle.reaching.specs.Passes.{FirstApart}
 

@@ -6,7 +6,7 @@ use mathlib.Core.List.{List, [], _∷_, _++_}
 use Rattle.interval_graph.specs.Reach.{reach, smaller, larger}
 use Rattle.refusals.specs.Question.{Question, positionQuestion, firstNo}
 use Rattle.plan.specs.File.{windowCount}
-use Rattle.plan.specs.Overlap.{overlaps}
+use Rattle.overlap.specs.Overlap.{overlaps}
 use Rattle.plan.specs.Validation.{planQuestions}
 use Rattle.reaching.specs.declared.answers.ReachAnswer.{ReachAnswer}
 use Rattle.reaching.specs.declared.answers.ReachAnswer.the-variants.{Reach, Refused}

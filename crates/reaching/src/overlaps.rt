@@ -17,7 +17,7 @@ pub(crate) fn first_apart(file: &[u8], minimum: u32, from: usize, top: usize) ->
     let later = plan::window_at(file, top as u16);
     let mut at = from;
     while at < top {
-        if !plan::overlap_in_order(minimum, plan::window_at(file, at as u16), later) {
+        if !overlap::overlap_in_order(minimum, plan::window_at(file, at as u16), later) {
             return at;
         }
         at += 1;

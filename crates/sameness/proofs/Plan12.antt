@@ -6,7 +6,8 @@ use Rattle.sequences.specs.Search.{every}
 use Rattle.refusals.specs.Question.{from}
 use Rattle.plan.specs.declared.windows.Window.{Window}
 use Rattle.plan.specs.File.{fileOf}
-use Rattle.plan.proofs.Plan12.{file, meaning}
+use Rattle.plan.proofs.Plan12.{file}
+use Rattle.overlap.proofs.Plan12.{meaning}
 use Rattle.sameness.specs.declared.SameAnswer.the-variants.{Same, Different}
 use Rattle.sameness.specs.Sameness.{samePairs, sameOverlap, sameQuestions, sameAnswerOf}
 

@@ -20,12 +20,12 @@ use Rattle.refusals.specs.declared.Refusal.{Refusal}
 use Rattle.refusals.specs.Question.{refusalFrom}
 use Rattle.plan.specs.declared.questions.Validation.the-variants as Validation
 use Rattle.plan.specs.File.{windowCount}
-use Rattle.plan.specs.Overlap.{overlaps}
+use Rattle.overlap.specs.Overlap.{overlaps}
 use Rattle.plan.specs.Validation.{AcceptedPlan, validateAnswerOf}
 use Rattle.plan.proofs.Accepted.{accepted-validated}
-use Rattle.plan.proofs.Overlap.{interval-order}
+use Rattle.overlap.proofs.Overlap.{interval-order}
 use Rattle.plan.proofs.Calls.{plan-first, plan-second}
-use Rattle.plan.proofs.Counted.{windows-order}
+use Rattle.overlap.proofs.Counted.{windows-order}
 use Rattle.minutes.specs.Tables.{lastOf}
 use Rattle.minutes.proofs.SingleTabled.{Tabled}
 use Rattle.sameness.specs.declared.SameAnswer.the-variants as SameAnswer

@@ -7,7 +7,7 @@ use lib.Dec.{eqb}
 use Rattle.sequences.specs.Search.{every}
 use Rattle.refusals.specs.Question.{Question, from, firstNo}
 use Rattle.plan.specs.File.{windowCount}
-use Rattle.plan.specs.Overlap.{overlaps}
+use Rattle.overlap.specs.Overlap.{overlaps}
 use Rattle.plan.specs.Validation.{planQuestions}
 use Rattle.sameness.specs.declared.SameAnswer.{SameAnswer}
 use Rattle.sameness.specs.declared.SameAnswer.the-variants.{Same, Different, Refused}

@@ -6,7 +6,7 @@ use native.Mathlib.Omega.{arith}
 use denote.Ref.{now}
 use lib.Dec.{leb}
 use Rattle.sequences.proofs.Tests.{byte-most}
-use Rattle.plan.specs.Overlap.{overlaps}
+use Rattle.overlap.specs.Overlap.{overlaps}
 use Rattle.path.proofs.Meeting.{last-within, meets-earlier}
 use Rattle.path.proofs.Neighbouring.{Counted, counted-start, counted-turn, counted-few, counted-end, neighbours-counted}
 use borrow.Author.Needs.{needs}

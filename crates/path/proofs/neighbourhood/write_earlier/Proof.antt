@@ -6,7 +6,7 @@ use mathlib.Core.{Path._∙_, Logic.⊎-elim}
 use native.Mathlib.Omega.{arith}
 use denote.Ref.{now}
 use borrow.Author.Tests.{le-leb, lt-leb}
-use Rattle.plan.specs.Overlap.{overlaps}
+use Rattle.overlap.specs.Overlap.{overlaps}
 use Rattle.plan.proofs.Counted.{window-within}
 use Rattle.path.proofs.Meeting.{meets-earlier}
 use Rattle.path.proofs.Neighbouring.{Listed, listed-start, listed-room, listed-more, listed-kept, listed-end, counted-few, counted-end}

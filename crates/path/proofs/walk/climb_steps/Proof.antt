@@ -6,7 +6,7 @@ use mathlib.Core.Path.{sym, _∙_}
 use native.Mathlib.Omega.{arith}
 use denote.Ref.{now}
 use Rattle.plan.specs.File.{windowCount}
-use Rattle.plan.specs.Overlap.{overlaps}
+use Rattle.overlap.specs.Overlap.{overlaps}
 use Rattle.interval_graph.proofs.Parent.{parent-le}
 use Rattle.path.proofs.Climbing.{handed-few, handed-long, handed-parent}
 use Rattle.path.proofs.Climbing.{Climbing, past-behind, past-before, climbing-start, climbing-turn, climbing-arrived, climbing-root}

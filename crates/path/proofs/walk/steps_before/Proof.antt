@@ -3,7 +3,7 @@
 use native.Mathlib.Omega.{arith}
 use denote.Ref.{now}
 use Rattle.plan.specs.File.{windowCount}
-use Rattle.plan.specs.Overlap.{overlaps}
+use Rattle.overlap.specs.Overlap.{overlaps}
 use Rattle.path.proofs.Climbing.{handed-few}
 use Rattle.path.proofs.Climbing.{climb-few}
 use Rattle.path.proofs.Walking.{steps-none, steps-some}

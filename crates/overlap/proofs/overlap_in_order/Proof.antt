@@ -1,9 +1,9 @@
--- `plan::windows::overlap_in_order` meets its contract: the sums of two 32-bit numbers fit 64 bits.
+-- `overlap::overlap_in_order` meets its contract: the sums of two 32-bit numbers fit 64 bits.
 -- Assumes nothing.
-use Rattle.plan.specs.Overlap.{overlapInOrder}
+use Rattle.overlap.specs.Overlap.{overlapInOrder}
 use borrow.Author.Needs.{needs}
-use Rattle.plan.proofs.windows.overlap_in_order.Statement.{statement}
-use Rattle.plan.proofs.windows.overlap_in_order.Tie as tie
+use Rattle.overlap.proofs.overlap_in_order.Statement.{statement}
+use Rattle.overlap.proofs.overlap_in_order.Tie as tie
 
 cast-result : tie.Need-cast-result
 cast-result c = search needs

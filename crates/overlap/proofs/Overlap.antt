@@ -13,10 +13,10 @@ use lib.Dec.{ltb, leb, eqb}
 use borrow.Author.Tests.{ltb-true, leb-true, eqb-false, lt-ltb, le-leb, ne-eqb, not-true}
 use Rattle.sequences.proofs.{Search.count-range, Tests.truth, Tests.and-left, Tests.and-right, Tests.and-intro, Tests.iff-equal}
 use Rattle.interval_graph.specs.Order.{IntervalOrder}
 use Rattle.plan.specs.{declared.windows.Window.Window, File.windowCount, File.minimumHandover, File.windowAt, File.endOf}
-use Rattle.plan.specs.Overlap.{covers, sharedMinutes, sharing, overlaps, sharesMinute, boundOf, overlapInOrder}
 use Rattle.plan.specs.Validation.{AcceptedPlan}
 use Rattle.plan.proofs.Accepted.{Sound, accepted-sound, offsets-sorted}
+use Rattle.overlap.specs.Overlap.{covers, sharedMinutes, sharing, overlaps, sharesMinute, boundOf, overlapInOrder}
 
 -- A window covers the minutes from its offset up to, not including, its end.
 pub covers-minute : (w : Window) (m : ℕ) → covers w m ≡ true → (w .offset ≤ m) × (m < endOf w)
