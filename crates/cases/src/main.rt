@@ -7,11 +7,14 @@
 //       two positions of plan 12; their tags' pair, the build, the short tags, and the chain with its table
 //   window POSITION
 //       one position of plan 12; its neighbours with their table, and its reach
+//   margin FIRST SECOND
+//       two positions of plan 12; the margin of their windows, which was 9 before
 //   add NUMBER OFFSET LENGTH
 //       plan 12 with this number and a window more, and the reach of the changed plan's first window, where it was written
 //   less NUMBER POSITION
 //       plan 12 with this number and a window less, and the same
-// An answer is its kind and three numbers. 0: refused; 2: built; 3: reach; 4: chain; 5: no chain; 6: neighbours; 9: handovers.
+// An answer is its kind and three numbers. 0: refused; 2: built; 3: reach; 4: chain; 5: no chain; 6: neighbours; 9: handovers;
+// 13: margin.
 mod files;
 mod lines;
 mod tries;

@@ -3,12 +3,14 @@ use crate::files;
 use crate::lines::next_word;
 use crate::lines::number_at;
 use crate::words::print_answer;
+use crate::words::print_signed;
 use crate::words::print_table;
 use plan::GREATEST_COUNT;
 use plan::HEADER_LENGTH;
 use plan::WINDOW_LENGTH;
 use poddreshi::poddreshi_add;
 use poddreshi::poddreshi_chain;
+use poddreshi::poddreshi_margin;
 use poddreshi::poddreshi_neighbours;
 use poddreshi::poddreshi_pair_at;
 use poddreshi::poddreshi_reach;
@@ -67,6 +69,13 @@ fn try_window(file: &[u8], at: usize) {
     print_answer(poddreshi_reach(file, at));
 }
 
+// Two positions, by the margin of their windows.
+fn try_margin(file: &[u8], first: usize, second: usize) {
+    let mut margin: i64 = 9;
+    print_answer(poddreshi_margin(file, first, second, &mut margin));
+    print_signed(margin);
+}
+
 // A window more, in buffers for eight windows, and the reach of the changed plan's first window. What was not written is no plan.
 fn try_add(file: &[u8], plan: u16, offset: u32, minutes: u32) {
     let mut changed = [0; HEADER_LENGTH + WINDOW_LENGTH * 8];
@@ -89,6 +98,7 @@ fn try_plan_12(kind: u8, first: u64, second: u64, third: u64) {
     match kind {
         b'p' => try_pair(&file, first as usize, second as usize),
         b'w' => try_window(&file, first as usize),
+        b'm' => try_margin(&file, first as usize, second as usize),
         b'a' => try_add(
             &file,
             (first % 65536) as u16,

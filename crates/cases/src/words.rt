@@ -28,3 +28,16 @@ pub(crate) fn print_answer(answer: u64) {
     print_number(answer / 4294967296 % 65536);
     print_number(answer / 281474976710656);
 }
+
+// A number that may lie below 0, behind a colon. What lies below 0 is made positive one short of itself, since the least number has no
+// positive one.
+pub(crate) fn print_signed(number: i64) {
+    print_byte(b':');
+    if number < 0 {
+        print_byte(b' ');
+        print_byte(b'-');
+        io::print_decimal(STDOUT_FILENO, (-1 - number) as u64 + 1);
+    } else {
+        print_number(number as u64);
+    }
+}

@@ -1,5 +1,5 @@
 -- The statements of specs/, proved: Refusals, Tree, EndToEnd (`demand-3`, in Counts), Calls, Short, Cases, Minimum, Page, Reach,
--- Change.
+-- Change, Margin.
 --   Refusals  demand 1
 --   Tree      demand 2
 --   Counts    demand 3, of the definitions that the calls answer by
@@ -11,6 +11,7 @@
 --   Page      Q-4: a page of pairs
 --   Reach     Q-5: reach exactly
 --   Change    Q-6: adding and withdrawing
+--   Margin    Q-7: margin between two windows
 pub mod Refusals
 pub mod Tree
 pub mod Counts
@@ -22,3 +23,4 @@ pub mod Minimum
 pub mod Page
 pub mod Reach
 pub mod Change
+pub mod Margin

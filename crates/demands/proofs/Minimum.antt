@@ -8,7 +8,7 @@ use Rattle.sequences.proofs.Tests.{true-false-absurd}
 use Rattle.interval_graph.proofs.Plan12.{definitions}
 use Rattle.refusals.specs.Question.{allYes}
 use Rattle.plan.specs.{declared.windows.Window.Window, File.minimumHandover, File.windowAt, File.endOf, File.fileOf}
-use Rattle.overlap.specs.Overlap.{overlaps, overlapInOrder, sharesMinute}
+use Rattle.overlap.specs.Overlap.{overlaps, marginReaches, sharesMinute}
 use Rattle.overlap.proofs.Plan12.{meaning}
 use Rattle.plan.proofs.Accepted.{accepted-sound}
 use Rattle.overlap.proofs.Overlap.{overlaps-minimum, minimum-overlaps, overlaps-in-order, interval-order, as-before}
@@ -19,7 +19,7 @@ use Rattle.demands.specs.Minimum.{MinimumOverlaps, MinimumOne, SameMinim
 use Rattle.demands.proofs.Calls.{sameness}
 
 pub minimum-overlap : MinimumOverlaps
-unfolding overlapInOrder
+unfolding marginReaches
 minimum-overlap file ok =
     record {
       shared = λ u v. (overlaps-minimum file u v, λ h. minimum-overlaps file u v (h .0) (h .1));

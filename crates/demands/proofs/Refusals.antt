@@ -35,6 +35,8 @@ use Rattle.minutes.specs.SingleTable.{tableAnswerOf, afterTable}
 use Rattle.minutes.specs.EvenTable.{evenTableAnswerOf}
 use Rattle.even_tags.specs.ShortTags.{shortTagsAnswerOf, afterShortTags}
 use Rattle.changing.specs.Questions.{changeAnswerOf, afterChange}
+use Rattle.overlap.specs.declared.margins.MarginAnswer.the-variants as MarginAnswer
+use Rattle.overlap.specs.Margin.{marginAnswerOf}
 use Rattle.reaching.specs.Reach.{reachIn, reachOf, reachAnswerOf}
 use Rattle.path.specs.declared.answers.ChainAnswer.the-variants as ChainAnswer
 use Rattle.path.specs.declared.answers.NeighboursAnswer.the-variants as NeighboursAnswer
@@ -86,7 +88,7 @@ pub demand-1 : Demand1
 unfolding validateAnswerOf numbersAnswerOf buildAnswerOf tagsAnswerOf tableAnswerOf reachIn reachOf reachAnswerOf chainAnswerOf neighboursAnswerOf sameAnswerOf
     readAnswerOf writeAnswerOf lookupAnswerOf pairAnswerOf pairAtAnswerOf afterBuild afterTags afterTable afterChain afterNeighbours
     afterWrite shortTagsAnswerOf evenTableAnswerOf shortReadAnswerOf shortWriteAnswerOf shortPairAnswerOf shortPairAtAnswerOf afterShortTags
-    afterShortWrite pageAnswerOf ifFilled afterPage queryQuestions changeAnswerOf afterChange
+    afterShortWrite pageAnswerOf ifFilled afterPage queryQuestions changeAnswerOf afterChange marginAnswerOf
 demand-1 =
     record {
       validating = λ file. refuses Validation.Refused _ (λ r s e. cc) (λ r e. let z : _≡_ {A = ℕ} 0 1 = cc in omega arith) _;
@@ -97,6 +99,7 @@ demand-1 =
       reaching = λ file at. refuses ReachAnswer.Refused _ (λ r s e. cc) (λ r e. let z : _≡_ {A = ℕ} 0 1 = cc in omega arith) _;
       chaining = λ file first second room. refuses ChainAnswer.Refused _ (λ r s e. cc) (chain-found (chainBetween file first second)) _;
       neighbouring = λ file at room. refuses NeighboursAnswer.Refused _ (λ r s e. cc) (λ r e. let z : _≡_ {A = ℕ} 0 1 = cc in omega arith) _;
+      margining = λ file first second. refuses MarginAnswer.Refused _ (λ r s e. cc) (λ r e. let z : _≡_ {A = ℕ} 0 1 = cc in omega arith) _;
       changing = λ file c changed tags. refuses BuildAnswer.Refused _ (λ r s e. cc) (λ r e. let z : _≡_ {A = ℕ} 0 1 = cc in omega arith) _;
       comparing = λ first second. refuses SameAnswer.Refused _ (λ r s e. cc) (same-found (sameOverlap first second)) _;
       reading = λ bytes. refuses TagRead.Refused _ (λ r s e. cc) (λ r e. let z : _≡_ {A = ℕ} 0 1 = cc in omega arith) _;

@@ -19,7 +19,7 @@
 --             refusals/specs/Question), and on nothing else: tree, tags, rule and walk need no belief, since this is proved of them
 --   Tree      demand 2. It rests also on interval_graph/specs/{Forest, Tree}, up to rank, on sequences/specs and on tag_bytes/specs/Fields
 --   Refusals  demand 1. It rests on the questions of each call: …Questions in plan, tag_bytes, tag, short_tag, minutes, tree, even_tags,
---             reaching, path, sameness, page, changing
+--             reaching, path, sameness, page, changing, overlap
 --   Calls     what paper 01 says of sameness and of equal tags
 --   Short     paper 02, Q-1: short tags of even plans. What it says of their answers rests on nothing more; the rest of it on
 --             interval_graph/specs/Tree, up to rank, and on tag_bytes/specs/Fields
@@ -31,7 +31,8 @@
 --             depth (interval_graph/specs/Forest)
 --   Change    paper 02, Q-6: adding and withdrawing. It rests on changing/specs/{Change, Questions}, and what it says of tags on what Tree
 --             rests on
--- Merely named, and proved right: sizes and starts (Forest), Walk, Numbers (the rule on two tags), overlapInOrder and boundOf (Overlap).
+--   Margin    paper 02, Q-7: margin between two windows. It rests on windows and overlap as EndToEnd does, and on overlap/specs/Margin
+-- Merely named, and proved right: sizes and starts (Forest), Walk, Numbers (the rule on two tags), marginReaches and boundOf (Overlap).
 pub mod EndToEnd
 pub mod Tree
 pub mod Refusals
@@ -42,3 +43,4 @@ pub mod Minimum
 pub mod Page
 pub mod Reach
 pub mod Change
+pub mod Margin

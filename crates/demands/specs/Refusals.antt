@@ -29,6 +29,8 @@ use Rattle.tree.specs.Build.{buildQuestions, buildAnswerOf, tagsQuestions, tags
 use Rattle.even_tags.specs.ShortTags.{shortTagsQuestions, shortTagsAnswerOf, afterShortTags}
 use Rattle.numbering.specs.declared.answers.BuildAnswer.the-variants as BuildAnswer
 use Rattle.changing.specs.{declared.records.Change.Change, Questions.changeQuestions, Questions.changeAnswerOf, Questions.afterChange}
+use Rattle.overlap.specs.Margin.{marginQuestions, marginAnswerOf}
+use Rattle.overlap.specs.declared.margins.MarginAnswer.the-variants as MarginAnswer
 use Rattle.reaching.specs.Reach.{reachQuestions, reachAnswerOf}
 use Rattle.reaching.specs.declared.answers.ReachAnswer.the-variants as ReachAnswer
 use Rattle.path.specs.Chain.{chainQuestions, chainAnswerOf, afterChain}
@@ -60,6 +62,8 @@ pub record Demand1 : Type 0 where
   pub chaining : (file : List ℕ) (u v room : ℕ) → Refuses (chainQuestions file u v room) ChainAnswer.Refused (chainAnswerOf file u v room)
   pub neighbouring :
       (file : List ℕ) (v room : ℕ) → Refuses (neighboursQuestions file v room) NeighboursAnswer.Refused (neighboursAnswerOf file v room)
+  -- (paper 02, Q-7)
+  pub margining : (file : List ℕ) (u v : ℕ) → Refuses (marginQuestions file u v) MarginAnswer.Refused (marginAnswerOf file u v)
   -- (a change, with buffers of so many bytes; paper 02, Q-6)
   pub changing :
       (file : List ℕ) (c : Change) (changed tags : ℕ) →

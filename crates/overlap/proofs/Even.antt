@@ -10,11 +10,11 @@ use Rattle.interval_graph.specs.Tree.{last, LastsRise}
 use Rattle.interval_graph.proofs.Last.{last-cases, last-ge, overlap-last}
 use Rattle.plan.specs.{File.windowCount, File.minimumHandover, File.windowAt, File.endOf, Validation.AcceptedPlan, Even.EvenPlan}
 use Rattle.plan.proofs.Even.{even-ends}
-use Rattle.overlap.specs.Overlap.{overlaps, overlapInOrder}
+use Rattle.overlap.specs.Overlap.{overlaps, marginReaches}
 use Rattle.overlap.proofs.Overlap.{overlaps-in-order, interval-order}
 
 pub even-lasts : (file : List ℕ) → AcceptedPlan file → EvenPlan file → LastsRise (windowCount file) (overlaps file)
-unfolding overlapInOrder
+unfolding marginReaches
 even-lasts file ok even v h =
     let n = windowCount file in let z = last n (overlaps file) v in let order = interval-order file ok in
     let full = windowAt file z .offset + minimumHandover file in ⊎-elim (λ c. ⊎-elim

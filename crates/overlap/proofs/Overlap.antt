@@ -1,5 +1,5 @@
 -- Laws of overlap. `sharedMinutes` is the smaller end less the greater offset; in an accepted plan u before v overlap exactly if the
--- offset of v and the minimum together are at most the end of u, and exactly if v begins before the bound of u; the overlap of an
+-- end of u less the offset of v reaches the minimum, and exactly if v begins before the bound of u; the overlap of an
 -- accepted plan is in interval order, which is all that the theory of `interval_graph` asks; and with minimum 1 two windows overlap
 -- exactly if some minute is covered by both.
 -- Vocabulary: covers-minute, shared-minutes, overlaps-minimum, minimum-overlaps, overlaps-in-order, overlaps-bound, touching-apart,
@@ -16,7 +16,7 @@ use Rattle.interval_graph.specs.Order.{IntervalOrder}
 use Rattle.plan.specs.{declared.windows.Window.Window, File.windowCount, File.minimumHandover, File.windowAt, File.endOf}
 use Rattle.plan.specs.Validation.{AcceptedPlan}
 use Rattle.plan.proofs.Accepted.{Sound, accepted-sound, offsets-sorted}
-use Rattle.overlap.specs.Overlap.{covers, sharedMinutes, sharing, overlaps, sharesMinute, boundOf, overlapInOrder}
+use Rattle.overlap.specs.Overlap.{covers, sharedMinutes, sharing, overlaps, sharesMinute, marginReaches, boundOf}
 
 -- A window covers the minutes from its offset up to, not including, its end.
 pub covers-minute : (w : Window) (m : ℕ) → covers w m ≡ true → (w .offset ≤ m) × (m < endOf w)
@@ -66,11 +66,11 @@ pub minimum-overlaps : (file : List ℕ) (u v : ℕ) → u ≢ v → minimumHand
 unfolding overlaps
 minimum-overlaps file = minutes-sharing (minimumHandover file) file
 
--- In an accepted plan, for u before v: the offset of v and the minimum together are at most the end of u. Question 4 is what this rests
+-- In an accepted plan, for u before v: the end of u less the offset of v reaches the minimum. Question 4 is what this rests
 -- on: v is at least as long as the minimum, so that the minutes shared do not run out at the end of v.
 pub overlaps-in-order : (file : List ℕ) → AcceptedPlan file → (u v : ℕ) → u < v → v < windowCount file →
-    overlaps file u v ≡ overlapInOrder (minimumHandover file) (windowAt file u) (windowAt file v)
-unfolding overlapInOrder endOf
+    overlaps file u v ≡ marginReaches (minimumHandover file) (endOf (windowAt file u)) (windowAt file v .offset)
+unfolding marginReaches endOf
 overlaps-in-order file ok u v before within =
     iff-equal (overlaps file u v) (leb full (endOf a))
     (λ t. le-leb full (endOf a) (omega (arith, overlaps-minimum file u v t .1, shared-minutes a b, s .least)))
@@ -94,7 +94,7 @@ overlaps-in-order file ok u v before within =
 -- The same by the bound of u, which the searches form once for a window.
 pub overlaps-bound : (file : List ℕ) → AcceptedPlan file → (u v : ℕ) → u < v → v < windowCount file →
     overlaps file u v ≡ ltb (windowAt file v .offset) (boundOf (minimumHandover file) (windowAt file u))
-unfolding overlapInOrder boundOf
+unfolding marginReaches boundOf
 overlaps-bound file ok u v before within =
     let least = accepted-sound file ok .least in let m = minimumHandover file in
     let a = windowAt file u in let o = windowAt file v .offset in
@@ -113,7 +113,7 @@ touching-apart file ok u v e =
 
 -- The overlap of an accepted plan is in interval order. (`between` rests on question 4, by `overlaps-in-order`.)
 pub interval-order : (file : List ℕ) → AcceptedPlan file → IntervalOrder (windowCount file) (overlaps file)
-unfolding overlapInOrder
+unfolding marginReaches
 interval-order file ok =
     record {
       symmetric = λ u v. iff-equal _ _ (turned u v) (turned v u);

@@ -2,10 +2,14 @@
 -- Assumes nothing.
 use Prim.Native.Nat.{ℕ}
 use mathlib.Core.{Bool.true, Bool.false, Path._≡_, Path.refl, List.List, List.[], List._∷_}
+use lib.IntN.{pos, negsuc}
 use Rattle.sequences.specs.Table.{table}
 use Rattle.interval_graph.proofs.Plan12.{definitions, row, listing}
+use Rattle.refusals.specs.Question.{refusalBy, refusalFrom, from, positionQuestion, positionQuestions}
 use Rattle.plan.proofs.Plan12.{file, window, two, plan-meaning}
-use Rattle.overlap.specs.Overlap.{covers, sharedMinutes, sharing, overlaps, overlapInOrder, boundOf}
+use Rattle.overlap.specs.declared.margins.MarginAnswer.the-variants.{Margin, Refused}
+use Rattle.overlap.specs.Overlap.{covers, sharedMinutes, sharing, overlaps, marginReaches, boundOf}
+use Rattle.overlap.specs.Margin.{marginOf, marginBetween, marginQuestions, marginAnswerOf}
 
 -- What a computation on overlap in the file opens.
 unfoldable pub meaning : Unit {0}
@@ -23,7 +27,22 @@ minimum-reached = refl
 
 -- How overlap is computed says the same, and so does the bound that the searches form.
 pub minimum-computed :
-    (overlapInOrder 5 (window 0 10) (window 5 10) ∷ overlapInOrder 6 (window 0 10) (window 5 10) ∷ [] ≡ true ∷ false ∷ [])
+    (marginReaches 5 10 5 ∷ marginReaches 6 10 5 ∷ [] ≡ true ∷ false ∷ [])
     × (boundOf 1 (window 0 10) ∷ boundOf 5 (window 0 10) ∷ boundOf 10 (window 0 10) ∷ [] ≡ 10 ∷ 6 ∷ 1 ∷ [])
-unfolding meaning overlapInOrder boundOf
+unfolding meaning marginReaches boundOf
 minimum-computed = (refl, refl)
+
+-- The margins of window 0 with itself and the others: 10 is its length, and −8 the gap up to window 6. Windows 4 and 6 touch.
+pub plan-12-margins :
+    marginBetween file 0 0 ∷ marginBetween file 0 1 ∷ marginBetween file 0 2 ∷ marginBetween file 3 0 ∷ marginBetween file 0 4
+    ∷ marginBetween file 6 0 ∷ marginBetween file 4 6 ∷ []
+    ≡ pos 10 ∷ pos 3 ∷ pos 6 ∷ pos 1 ∷ negsuc 1 ∷ negsuc 7 ∷ pos 0 ∷ []
+unfolding meaning marginOf marginBetween
+plan-12-margins = refl
+
+-- A refusal has the number of its question, and the second position its input; the first is asked about first.
+pub plan-12-margin-answers :
+    marginAnswerOf file 0 4 ∷ marginAnswerOf file 7 9 ∷ marginAnswerOf file 0 7 ∷ marginAnswerOf (two 11) 2 0 ∷ []
+    ≡ Margin (negsuc 1) ∷ Refused (refusalBy 7) ∷ Refused (refusalFrom 1 (refusalBy 7)) ∷ Refused (refusalBy 4) ∷ []
+unfolding meaning marginOf marginBetween marginQuestions marginAnswerOf positionQuestions positionQuestion from
+plan-12-margin-answers = refl

@@ -1,6 +1,6 @@
 -- Paper 01: "the window covers the minutes from its offset up to, not including, its end", and paper 02, Q-2: "Two windows overlap when
 -- they share at least that many minutes", the plan's minimum handover.
--- Vocabulary: covers, sharedMinutes, sharing, overlaps; sharesMinute; boundOf, overlapInOrder.
+-- Vocabulary: covers, sharedMinutes, sharing, overlaps; sharesMinute; marginReaches, boundOf.
 use Prim.Native.Nat.{ℕ, _+_, _-_, max}
 use mathlib.Core.Bool.{Bool, not, _&&_}
 use mathlib.Core.List.{List}
@@ -28,9 +28,9 @@ unfoldable pub sharesMinute : List ℕ → ℕ → ℕ → Bool
 sharesMinute file = sharing 1 file
 
 -- What follows need not be believed: how overlap is computed, of which `overlaps-in-order` and `overlaps-bound` say that it is overlap.
--- Two windows, of which the first stands before the second.
-unfoldable pub overlapInOrder : (minimum : ℕ) (earlier later : Window) → Bool
-overlapInOrder minimum earlier later = leb (later .offset + minimum) (endOf earlier)
+-- Whether the end of a window less the offset of one behind it reaches the minimum.
+unfoldable pub marginReaches : (minimum end offset : ℕ) → Bool
+marginReaches minimum end offset = leb (offset + minimum) end
 
 -- Where a later window must begin before, to share enough minutes with this one.
 unfoldable pub boundOf : (minimum : ℕ) → Window → ℕ

@@ -2,7 +2,7 @@
 -- which belongs to one variant of one answer in the whole interface; the others are the variant's numbers in paper 01's
 -- order, and 0 where it has fewer.
 -- Vocabulary: packed, packedRefusal, packedValidation, packedBuild, packedReach, packedChain, packedNeighbours, packedSame,
--- packedPair, packedLookup, packedWrite, packedPage.
+-- packedPair, packedLookup, packedWrite, packedPage, packedMargin.
 use Prim.Native.Nat.{ℕ, _+_, _*_}
 use Rattle.refusals.specs.declared.Refusal.{Refusal}
 use Rattle.plan.specs.declared.questions.Validation.{Validation}
@@ -25,6 +25,8 @@ use Rattle.tag_bytes.specs.declared.writer.WriteAnswer.{WriteAnswer}
 use Rattle.tag_bytes.specs.declared.writer.WriteAnswer.the-variants as write
 use Rattle.page.specs.declared.PageAnswer.{PageAnswer}
 use Rattle.page.specs.declared.PageAnswer.the-variants as page
+use Rattle.overlap.specs.declared.margins.MarginAnswer.{MarginAnswer}
+use Rattle.overlap.specs.declared.margins.MarginAnswer.the-variants as margin
 
 -- Four fields of 16 bits, the lowest first.
 abbrev pub packed : (kind first second third : ℕ) → ℕ
@@ -87,3 +89,9 @@ packedWrite (write.Refused r) = packedRefusal r
 unfoldable pub packedPage : PageAnswer → ℕ
 packedPage page.Filled = packed 12 0 0 0
 packedPage (page.Refused r) = packedRefusal r
+
+-- Q-7: "give the smaller end less the greater offset": a signed number, which is handed on in a lent place of its own, so that no field
+-- has to hold it.
+unfoldable pub packedMargin : MarginAnswer → ℕ
+packedMargin (margin.Margin m) = packed 13 0 0 0
+packedMargin (margin.Refused r) = packedRefusal r

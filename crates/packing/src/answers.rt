@@ -1,4 +1,5 @@
 // Each answer as one number of 64 bits: four fields of 16 bits, the kind lowest.
+use overlap::MarginAnswer;
 use page::PageAnswer;
 use path::ChainAnswer;
 use path::NeighboursAnswer;
@@ -11,7 +12,7 @@ use tag::PairAnswer;
 use tag::WriteAnswer;
 use tree::BuildAnswer;
 ghost use mathlib.Core.Path.{_≡_};
-ghost use Rattle.packing.specs.Packing.{packed, packedRefusal, packedValidation, packedBuild, packedReach, packedChain, packedNeighbours, packedSame, packedPair, packedLookup, packedWrite, packedPage};
+ghost use Rattle.packing.specs.Packing.{packed, packedRefusal, packedValidation, packedBuild, packedReach, packedChain, packedNeighbours, packedSame, packedPair, packedLookup, packedWrite, packedPage, packedMargin};
 
 fn pack(kind: u16, first: u16, second: u16, third: u16) -> u64
     ensures { λ r. ⌜ r ≡ packed kind first second third ⌝ }
@@ -131,5 +132,15 @@ pub fn pack_page(answer: PageAnswer) -> u64
     match answer {
         PageAnswer::Filled => pack(12, 0, 0, 0),
         PageAnswer::Refused(refusal) => pack_refusal(refusal),
+    }
+}
+
+// The margin itself, a signed number, is handed on beside the answer.
+pub fn pack_margin(answer: MarginAnswer) -> u64
+    ensures { λ r. ⌜ r ≡ packedMargin answer ⌝ }
+{
+    match answer {
+        MarginAnswer::Margin(_) => pack(13, 0, 0, 0),
+        MarginAnswer::Refused(refusal) => pack_refusal(refusal),
     }
 }

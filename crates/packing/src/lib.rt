@@ -4,6 +4,7 @@ mod answers;
 pub use answers::pack_build;
 pub use answers::pack_chain;
 pub use answers::pack_lookup;
+pub use answers::pack_margin;
 pub use answers::pack_neighbours;
 pub use answers::pack_page;
 pub use answers::pack_pair;

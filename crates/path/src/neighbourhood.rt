@@ -1,9 +1,7 @@
 // The windows that overlap one window: some of those before it, and behind it all up to its last. They are counted first, so that nothing
 // is written where they do not fit.
 use crate::answers::NeighboursAnswer;
-use crate::windows::bound_at;
 use crate::windows::end_at;
-use crate::windows::needed_at;
 use crate::windows::window_at;
 use plan::Validation;
 use refusals::Refusal;
@@ -27,12 +25,13 @@ fn last_at(file: &[u8], windows: usize, at: usize) -> usize
     requires { ⌜ at < windows ⌝ }
     ensures { λ r. ⌜ r ≡ lastOf (now (file .entry)) at ⌝ }
 {
-    let bound = bound_at(file, at);
+    let minimum = plan::minimum_handover(file);
+    let end = end_at(file, at);
     let mut low = at;
     let mut high = windows;
     while low + 1 < high {
         let middle = (low + high) / 2;
-        if window_at(file, middle).offset < bound {
+        if overlap::reaches(minimum, end, window_at(file, middle).offset) {
             low = middle;
         } else {
             high = middle;
@@ -47,12 +46,13 @@ fn count_neighbours(file: &[u8], at: usize, last: usize) -> usize
     requires { ⌜ last ≡ lastOf (now file) at ⌝ }
     ensures { λ r. ⌜ r ≡ length (neighboursOf (now (file .entry)) at) ⌝ }
 {
-    let needed = needed_at(file, at);
+    let minimum = plan::minimum_handover(file);
+    let offset = window_at(file, at).offset;
     let mut earlier = 0;
     let mut position = 0;
     while position < at {
         // A sum and not a branch: which windows overlap cannot be foreseen.
-        earlier += (needed <= end_at(file, position)) as usize;
+        earlier += overlap::reaches(minimum, end_at(file, position), offset) as usize;
         position += 1;
     }
     earlier + (last - at)
@@ -66,11 +66,12 @@ fn write_earlier(file: &[u8], at: usize, out: &mut [u16]) -> usize
     ensures { λ r. ⌜ r ≡ length (passing (overlaps (now (file .entry)) at) 0 at) ⌝ }
     ensures { λ _. ⌜ now (out .exit) ≡ overwritten (now (out .entry)) (passing (overlaps (now (file .entry)) at) 0 at) ⌝ }
 {
-    let needed = needed_at(file, at);
+    let minimum = plan::minimum_handover(file);
+    let offset = window_at(file, at).offset;
     let mut found = 0;
     let mut position = 0;
     while position < at {
-        if needed <= end_at(file, position) {
+        if overlap::reaches(minimum, end_at(file, position), offset) {
             out[found] = position as u16;
             found += 1;
         }

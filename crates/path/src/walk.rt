@@ -1,6 +1,6 @@
 // The walk up from the later window, from parent to parent, until a window that the earlier one overlaps, or one that does
 // not stand behind it.
-use crate::windows::bound_at;
+use crate::windows::end_at;
 use crate::windows::window_at;
 ghost use mathlib.Core.Path.{_≡_};
 ghost use Prim.Native.Nat.{_<_};
@@ -18,11 +18,12 @@ fn climb_steps(file: &[u8], parents: &[u16], earlier: usize, later: usize) -> us
     requires { ⌜ later < windowCount (now file) ⌝ }
     ensures { λ r. ⌜ r ≡ climb (windowCount (now (file .entry))) (overlaps (now (file .entry))) earlier later ⌝ }
 {
-    let bound = bound_at(file, earlier);
+    let minimum = plan::minimum_handover(file);
+    let end = end_at(file, earlier);
     let mut at = later;
     let mut steps = 0;
-    // A window that begins at the bound or after it stands behind the last, and no other does.
-    while bound <= window_at(file, at).offset {
+    // A window that shares less than the minimum with the earlier one stands behind its last, and no other does.
+    while !overlap::reaches(minimum, end, window_at(file, at).offset) {
         let parent = parents[at] as usize;
         if parent == at {
             return later + 1;

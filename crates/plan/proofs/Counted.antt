@@ -1,6 +1,6 @@
 -- What is known of an accepted plan's file by the number of its windows, and that a validation hands it on; and where each of its
 -- windows lies, which whoever reads windows cites.
--- Vocabulary: windows-few, validated-windows, window-within, minimum-within, end-fits, needed-least.
+-- Vocabulary: windows-few, validated-windows, window-within, minimum-within, needed-least.
 -- Assumes nothing.
 use Prim.Native.Nat.{ℕ, _+_, _-_, _≤_, _<_}
 use mathlib.Core.{Path._≡_, Path.sym, Path._∙_, List.List}
@@ -36,10 +36,7 @@ module _ (file : List ℕ) (ok : AcceptedPlan file) (v : ℕ) (h : v < windowCou
   unfolding endOf
   minimum-within = (accepted-sound file ok .least, omega (arith, accepted-sound file ok .long v h))
 
-  -- Its end fits 32 bits, and what an earlier window must end at is no greater.
-  pub end-fits : endOf (windowAt file v) < 4294967296
-  end-fits = omega (arith, accepted-sound file ok .early v h)
-
+  -- It ends no earlier than an earlier window must, to overlap it.
   pub needed-least : windowAt file v .offset + minimumHandover file ≤ endOf (windowAt file v)
   unfolding endOf
   needed-least = omega (arith, accepted-sound file ok .long v h)

@@ -11,6 +11,7 @@ pub use pages::PackedQuery;
 pub use pages::poddreshi_page;
 pub use plans::poddreshi_build;
 pub use plans::poddreshi_chain;
+pub use plans::poddreshi_margin;
 pub use plans::poddreshi_neighbours;
 pub use plans::poddreshi_reach;
 pub use plans::poddreshi_same;

@@ -1,6 +1,8 @@
 // The calls on plan files.
+use overlap::MarginAnswer;
 use packing::pack_build;
 use packing::pack_chain;
+use packing::pack_margin;
 use packing::pack_neighbours;
 use packing::pack_reach;
 use packing::pack_same;
@@ -8,6 +10,7 @@ use packing::pack_validation;
 ghost use mathlib.Core.Path.{_≡_};
 ghost use lib.ListN.{length};
 ghost use Rattle.plan.specs.Validation.{validateAnswerOf};
+ghost use Rattle.overlap.specs.Margin.{marginAnswerOf};
 ghost use Rattle.minutes.specs.Tables.{parentOf};
 ghost use Rattle.numbering.specs.Tables.{componentOf, depthOf, rankOf, lastRankOf, numbersAt};
 ghost use Rattle.numbering.specs.Numbering.{afterBuild};
@@ -17,8 +20,8 @@ ghost use Rattle.reaching.specs.Reach.{reachAnswerOf};
 ghost use Rattle.path.specs.Chain.{chainBetween, chainAnswerOf, afterChain};
 ghost use Rattle.path.specs.Neighbours.{neighboursOf, neighboursAnswerOf, afterNeighbours};
 ghost use Rattle.sameness.specs.Sameness.{sameAnswerOf};
-ghost use Rattle.packing.specs.Packing.{packedValidation, packedBuild, packedReach, packedChain, packedNeighbours, packedSame};
-ghost use Rattle.poddreshi.specs.Lent.{builtIn};
+ghost use Rattle.packing.specs.Packing.{packedValidation, packedBuild, packedReach, packedChain, packedNeighbours, packedMargin, packedSame};
+ghost use Rattle.poddreshi.specs.Lent.{builtIn, marginAfter};
 
 // Whether a file is that of an accepted plan.
 #[no_mangle]
@@ -92,6 +95,26 @@ pub extern "C" fn poddreshi_neighbours(file: &[u8], at: usize, out: &mut [u16]) 
     ensures { λ _. ⌜ now (out .exit) ≡ afterNeighbours (neighboursAnswerOf (now (file .entry)) at (length (now (out .entry)))) (neighboursOf (now (file .entry)) at) (now (out .entry)) ⌝ }
 {
     pack_neighbours(path::neighbours(file, at, out))
+}
+
+// The margin of two windows, which may be one: the smaller end less the greater offset.
+#[no_mangle]
+pub extern "C" fn poddreshi_margin(
+    file: &[u8],
+    first: usize,
+    second: usize,
+    margin: &mut i64,
+) -> u64
+    ensures { λ r. ⌜ r ≡ packedMargin (marginAnswerOf (now (file .entry)) first second) ⌝ }
+    ensures { λ _. ⌜ now (margin .exit) ≡ marginAfter (marginAnswerOf (now (file .entry)) first second) (now (margin .entry)) ⌝ }
+{
+    match overlap::margin(file, first, second) {
+        MarginAnswer::Margin(minutes) => {
+            *margin = minutes;
+            pack_margin(MarginAnswer::Margin(minutes))
+        }
+        MarginAnswer::Refused(refusal) => pack_margin(MarginAnswer::Refused(refusal)),
+    }
 }
 
 // Whether two plans are the same.

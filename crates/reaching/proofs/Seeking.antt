@@ -4,13 +4,13 @@
 use Prim.Native.Nat.{ℕ, suc, _+_, _≤_, _<_}
 use mathlib.Core.{Bool.Bool, Bool.true, Bool.false, Bool.not, Path._≡_, Path.sym, Path._∙_, Logic.⊎-elim, List.List}
 use native.Mathlib.Omega.{arith}
-use borrow.Author.Tests.{le-leb, lt-leb, not-true, not-false}
+use borrow.Author.Tests.{not-true, not-false}
 use Rattle.sequences.proofs.Tests.{lt-or-ge, true-false-absurd}
 use Rattle.interval_graph.proofs.Last.{last-ge, overlap-last, last-overlap}
 use Rattle.plan.specs.declared.windows.Window.{Window}
 use Rattle.plan.specs.File.{windowCount, minimumHandover, windowAt, endOf}
-use Rattle.overlap.specs.Overlap.{overlapInOrder}
 use Rattle.plan.specs.Validation.{AcceptedPlan}
+use Rattle.overlap.specs.Overlap.{overlaps, marginReaches}
 use Rattle.overlap.proofs.Overlap.{overlaps-in-order, interval-order}
 use Rattle.minutes.specs.Tables.{lastOf}
 use Rattle.reaching.specs.Passes.{FirstApart}
@@ -32,26 +32,31 @@ module _ (file : List ℕ) (ok : AcceptedPlan file) where
   unfolding lastOf
   own-last u = last-ge (interval-order file ok) u
 
-  -- What the test on a window and a later one says.
-  module _ (u v : ℕ) (before : u < v) (within : v < windowCount file) where
-    overlap-near : overlapInOrder (minimumHandover file) (windowAt file u) (windowAt file v) ≡ true → v ≤ lastOf file u
-    unfolding lastOf
-    overlap-near t = overlap-last (interval-order file ok) u v before within (overlaps-in-order file ok u v before within ∙ t)
+  -- What the test says of a window and a later one, put to what was read of them.
+  module _ (u v : ℕ) (before : u < v) (within : v < windowCount file) (minimum end : ℕ) (earlier later : Window)
+      (m : minimum ≡ minimumHandover file) (e : earlier ≡ windowAt file u) (ends : end ≡ endOf earlier) (l : later ≡ windowAt file v)
+      (asked : Bool) (a : asked ≡ marginReaches minimum end (later .offset)) where
+    answered : overlaps file u v ≡ asked
+    answered = overlaps-in-order file ok u v before within ∙ sym (rw (m, ends, e, l) at a)
 
-    overlap-past : overlapInOrder (minimumHandover file) (windowAt file u) (windowAt file v) ≡ false → lastOf file u < v
+    overlap-near : not asked ≡ false → v ≤ lastOf file u
+    unfolding lastOf
+    overlap-near t = overlap-last (interval-order file ok) u v before within (answered ∙ not-false asked t)
+
+    overlap-past : not asked ≡ true → lastOf file u < v
     unfolding lastOf
     overlap-past t =
-        ⊎-elim (λ l. l) (λ l. absurd (true-false-absurd _ (last-overlap (interval-order file ok) u v before l)
-        (overlaps-in-order file ok u v before within ∙ t))) (lt-or-ge (lastOf file u) v)
+        ⊎-elim (λ l. l) (λ l. absurd (true-false-absurd _ (last-overlap (interval-order file ok) u v before l) (answered ∙ not-true asked t)))
+        (lt-or-ge (lastOf file u) v)
 
   module _ (from top : ℕ) (window : top < windowCount file) where
     pub seeking-start : from ≤ top → Seeking file from top from
     seeking-start h = record { low = omega arith; high = h; before = λ w l g. absurd (omega arith) }
 
     module _ (at : ℕ) (s : Seeking file from top at) where
-      module _ (within : at < top) (minimum : ℕ) (earlier later : Window) (m : minimum ≡ minimumHandover file) (e : earlier ≡ windowAt file
-          at)
-          (l : later ≡ windowAt file top) (asked : Bool) (a : asked ≡ overlapInOrder minimum earlier later) where
+      module _ (within : at < top) (minimum end : ℕ) (earlier later : Window) (m : minimum ≡ minimumHandover file)
+          (e : earlier ≡ windowAt file at) (ends : end ≡ endOf earlier) (l : later ≡ windowAt file top) (asked : Bool)
+          (a : asked ≡ marginReaches minimum end (later .offset)) where
         pub seeking-turn : not asked ≡ false → Seeking file from top (at + 1)
         seeking-turn t =
             record {
@@ -61,14 +66,14 @@ module _ (file : List ℕ) (ok : AcceptedPlan file) where
             }
           where
             near : top ≤ lastOf file at
-            near = overlap-near at top within window (rw (m, e, l) at (sym a ∙ not-false asked t))
+            near = overlap-near at top within window minimum end earlier later m e ends l asked a t
 
         pub seeking-found : not asked ≡ true → FirstApart file from top at
         seeking-found t =
             record {
               low = s .low;
               high = s .high;
-              apart = λ h. overlap-past at top within window (rw (m, e, l) at (sym a ∙ not-true asked t));
+              apart = λ h. overlap-past at top within window minimum end earlier later m e ends l asked a t;
               before = s .before;
             }
 
@@ -83,19 +88,17 @@ module _ (file : List ℕ) (ok : AcceptedPlan file) where
     passing-start = record { low = omega arith; high = omega (arith, own-last at); near = omega (arith, own-last at) }
 
     module _ (next : ℕ) (s : Passing file at to next) where
-      module _ (within : next < to) (minimum end : ℕ) (earlier later : Window) (m : minimum ≡ minimumHandover file) (e : earlier ≡ windowAt
-          file at)
-          (ends : end ≡ endOf earlier) (l : later ≡ windowAt file next) where
-        pub passing-turn : later .offset + minimum ≤ end → Passing file at to (next + 1)
-        unfolding overlapInOrder
-        passing-turn h =
-            let near = overlap-near at next (s .low) (omega arith) (rw (m, e, l) at (le-leb _ _ (rw ends at h))) in
+      module _ (within : next < to) (minimum end : ℕ) (earlier later : Window) (m : minimum ≡ minimumHandover file)
+          (e : earlier ≡ windowAt file at) (ends : end ≡ endOf earlier) (l : later ≡ windowAt file next) (asked : Bool)
+          (a : asked ≡ marginReaches minimum end (later .offset)) where
+        pub passing-turn : not asked ≡ false → Passing file at to (next + 1)
+        passing-turn t =
+            let near = overlap-near at next (s .low) (omega arith) minimum end earlier later m e ends l asked a t in
             record { low = omega (arith, s .low); high = omega arith; near = omega arith }
 
-        pub passing-found : end < later .offset + minimum → next ≡ suc (lastOf file at)
-        unfolding overlapInOrder
-        passing-found h =
-            let past = overlap-past at next (s .low) (omega arith) (rw (m, e, l) at (lt-leb _ _ (rw ends at h))) in
+        pub passing-found : not asked ≡ true → next ≡ suc (lastOf file at)
+        passing-found t =
+            let past = overlap-past at next (s .low) (omega arith) minimum end earlier later m e ends l asked a t in
             omega (arith, s .near)
 
       pub passing-ends : to ≤ next → next ≡ suc (lastOf file at)

@@ -14,10 +14,11 @@ pub(crate) fn first_apart(file: &[u8], minimum: u32, from: usize, top: usize) ->
     requires { ⌜ top < windowCount (now file) ⌝ }
     ensures { λ r. ⌜ FirstApart (now (file .entry)) from top r ⌝ }
 {
-    let later = plan::window_at(file, top as u16);
+    let offset = plan::window_at(file, top as u16).offset;
     let mut at = from;
     while at < top {
-        if !overlap::overlap_in_order(minimum, plan::window_at(file, at as u16), later) {
+        let end = plan::window_end(plan::window_at(file, at as u16));
+        if !overlap::reaches(minimum, end, offset) {
             return at;
         }
         at += 1;
@@ -37,8 +38,7 @@ pub(crate) fn behind_last(file: &[u8], minimum: u32, at: usize, to: usize) -> us
     let end = plan::window_end(plan::window_at(file, at as u16));
     let mut next = at + 1;
     while next < to {
-        let offset = plan::window_at(file, next as u16).offset;
-        if end < offset as u64 + minimum as u64 {
+        if !overlap::reaches(minimum, end, plan::window_at(file, next as u16).offset) {
             return next;
         }
         next += 1;

@@ -44,17 +44,14 @@ cast-window-at-2 c = let d = c .before .before .before .before .before in
 window-at-requires-2 : tie.Need-window-at-requires-2 Inv-loop μ-loop
 window-at-requires-2 c κs = search needs
 
-cast-if1 : tie.Need-cast-if1 Inv-loop μ-loop
-cast-if1 c = search needs
-
-add-if1 : tie.Need-add-if1 Inv-loop μ-loop
-add-if1 c = search needs
+reaches-requires : tie.Need-reaches-requires Inv-loop μ-loop
+reaches-requires c κs = search needs
 
 returns : tie.Need-returns Inv-loop μ-loop
-returns c = let l = c .before .before .before in let d = l .before .before .before .before in
-    passing-found _ (d .pre .0) _ _ (d .pre .1 .1 .0) (d .pre .1 .1 .1) _ (l .loop .inv) (c .before .before .loop-test .taken) _ _ _ _ (d
+returns c = let l = c .before .before .before .before in let d = l .before .before .before .before in
+    passing-found _ (d .pre .0) _ _ (d .pre .1 .1 .0) (d .pre .1 .1 .1) _ (l .loop .inv) (c .before .before .before .loop-test .taken) _ _ _ _ (d
     .pre .1 .0)
-    (l .before .before .window-at .ensures) (l .before .window-end .ensures) (c .before .window-at2 .ensures) (c .if1 .taken)
+    (l .before .before .window-at .ensures) (l .before .window-end .ensures) (c .before .before .window-at2 .ensures) _ (c .before .reaches .ensures) (c .if1 .taken)
 
 add-next-2 : tie.Need-add-next-2 Inv-loop μ-loop
 add-next-2 c = search needs
@@ -63,10 +60,10 @@ loop-less : tie.Need-loop-less Inv-loop μ-loop
 loop-less c = search needs
 
 loop-again : tie.Need-loop-again Inv-loop μ-loop
-loop-again c = let l = c .before .before .before in let d = l .before .before .before .before in
-    passing-turn _ (d .pre .0) _ _ (d .pre .1 .1 .0) (d .pre .1 .1 .1) _ (l .loop .inv) (c .before .before .loop-test .taken) _ _ _ _ (d
+loop-again c = let l = c .before .before .before .before in let d = l .before .before .before .before in
+    passing-turn _ (d .pre .0) _ _ (d .pre .1 .1 .0) (d .pre .1 .1 .1) _ (l .loop .inv) (c .before .before .before .loop-test .taken) _ _ _ _ (d
     .pre .1 .0)
-    (l .before .before .window-at .ensures) (l .before .window-end .ensures) (c .before .window-at2 .ensures) (c .if1 .left)
+    (l .before .before .window-at .ensures) (l .before .window-end .ensures) (c .before .before .window-at2 .ensures) _ (c .before .reaches .ensures) (c .if1 .left)
 
 returns-2 : tie.Need-returns-2 Inv-loop μ-loop
 returns-2 c = let d = c .before .before .before .before .before in
@@ -75,4 +72,4 @@ returns-2 c = let d = c .before .before .before .before .before in
 pub behind-last-spec : {M : Type 1} → statement M
 behind-last-spec =
     tie.close (tie.spec Inv-loop μ-loop cast-window-at window-at-requires window-end-requires add-next loop-holds cast-window-at-2
-    window-at-requires-2 cast-if1 add-if1 returns add-next-2 loop-less loop-again returns-2)
+    window-at-requires-2 reaches-requires returns add-next-2 loop-less loop-again returns-2)

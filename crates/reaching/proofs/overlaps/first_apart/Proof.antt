@@ -10,10 +10,10 @@ use Rattle.reaching.proofs.overlaps.first_apart.Statement.{statement}
 use Rattle.reaching.proofs.overlaps.first_apart.Tie as tie
 
 abbrev Inv-loop : tie.InvT-loop
-Inv-loop file minimum from top later at₀ at = Seeking file from top at
+Inv-loop file minimum from top offset at₀ at = Seeking file from top at
 
 abbrev μ-loop : tie.MeasureT-loop
-μ-loop file minimum from top later at₀ at = top - at
+μ-loop file minimum from top offset at₀ at = top - at
 
 cast-window-at : tie.Need-cast-window-at Inv-loop μ-loop
 cast-window-at c = let d = c .before in
@@ -32,13 +32,17 @@ cast-window-at-2 c = let d = c .before .before .before .before in
 window-at-requires-2 : tie.Need-window-at-requires-2 Inv-loop μ-loop
 window-at-requires-2 c κs = search needs
 
-overlap-in-order-requires : tie.Need-overlap-in-order-requires Inv-loop μ-loop
-overlap-in-order-requires c κs = search needs
+window-end-requires : tie.Need-window-end-requires Inv-loop μ-loop
+window-end-requires c κs = search needs
+
+reaches-requires : tie.Need-reaches-requires Inv-loop μ-loop
+reaches-requires c κs = search needs
 
 returns : tie.Need-returns Inv-loop μ-loop
-returns c = let l = c .before .before .before .before in let d = l .before .before .before in
-    seeking-found _ (d .pre .0) _ _ (d .pre .1 .1 .1) _ (l .loop .inv) (c .before .before .before .loop-test .taken) _ _ _ (d .pre .1 .0)
-    (c .before .before .window-at2 .ensures) (l .before .window-at .ensures) _ (c .before .overlap-in-order .ensures) (c .if1 .taken)
+returns c = let l = c .before .before .before .before .before in let d = l .before .before .before in
+    seeking-found _ (d .pre .0) _ _ (d .pre .1 .1 .1) _ (l .loop .inv) (c .before .before .before .before .loop-test .taken) _ _ _ _ (d .pre .1 .0)
+    (c .before .before .before .window-at2 .ensures) (c .before .before .window-end .ensures) (l .before .window-at .ensures) _
+    (c .before .reaches .ensures) (c .if1 .taken)
 
 add-at : tie.Need-add-at Inv-loop μ-loop
 add-at c = search needs
@@ -47,9 +51,10 @@ loop-less : tie.Need-loop-less Inv-loop μ-loop
 loop-less c = search needs
 
 loop-again : tie.Need-loop-again Inv-loop μ-loop
-loop-again c = let l = c .before .before .before .before in let d = l .before .before .before in
-    seeking-turn _ (d .pre .0) _ _ (d .pre .1 .1 .1) _ (l .loop .inv) (c .before .before .before .loop-test .taken) _ _ _ (d .pre .1 .0)
-    (c .before .before .window-at2 .ensures) (l .before .window-at .ensures) _ (c .before .overlap-in-order .ensures) (c .if1 .left)
+loop-again c = let l = c .before .before .before .before .before in let d = l .before .before .before in
+    seeking-turn _ (d .pre .0) _ _ (d .pre .1 .1 .1) _ (l .loop .inv) (c .before .before .before .before .loop-test .taken) _ _ _ _ (d .pre .1 .0)
+    (c .before .before .before .window-at2 .ensures) (c .before .before .window-end .ensures) (l .before .window-at .ensures) _
+    (c .before .reaches .ensures) (c .if1 .left)
 
 returns-2 : tie.Need-returns-2 Inv-loop μ-loop
 returns-2 c = let d = c .before .before .before .before in
@@ -58,4 +63,4 @@ returns-2 c = let d = c .before .before .before .before in
 pub first-apart-spec : {M : Type 1} → statement M
 first-apart-spec =
     tie.close (tie.spec Inv-loop μ-loop cast-window-at window-at-requires loop-holds cast-window-at-2 window-at-requires-2
-    overlap-in-order-requires returns add-at loop-less loop-again returns-2)
+    window-end-requires reaches-requires returns add-at loop-less loop-again returns-2)
