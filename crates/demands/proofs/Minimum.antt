@@ -14,7 +14,8 @@ use Rattle.plan.proofs.Accepted.{accepted-sound}
 use Rattle.overlap.proofs.Overlap.{overlaps-minimum, minimum-overlaps, overlaps-in-order, interval-order, as-before}
 use Rattle.minutes.specs.Tables.{parentOf, lastOf}
 use Rattle.numbering.specs.Tables.{componentOf, depthOf, rankOf, lastRankOf, numbersAt}
-use Rattle.path.specs.{Chain.chainBetween, Neighbours.neighboursOf}
+use Rattle.path.specs.Chain.{chainBetween}
+use Rattle.neighbouring.specs.Neighbours.{neighboursOf}
 use Rattle.demands.specs.Minimum.{MinimumOverlaps, MinimumOne, SameMinimumOne, OldRefused, NeedsLength}
 use Rattle.demands.proofs.Calls.{sameness}
 

@@ -39,10 +39,10 @@ use Rattle.overlap.specs.declared.margins.MarginAnswer.the-variants as MarginAn
 use Rattle.overlap.specs.Margin.{marginAnswerOf}
 use Rattle.reaching.specs.Reach.{reachIn, reachOf, reachAnswerOf}
 use Rattle.path.specs.declared.answers.ChainAnswer.the-variants as ChainAnswer
-use Rattle.path.specs.declared.answers.NeighboursAnswer.the-variants as NeighboursAnswer
+use Rattle.neighbouring.specs.declared.neighbourhood.NeighboursAnswer.the-variants as NeighboursAnswer
 use Rattle.sameness.specs.declared.SameAnswer.the-variants as SameAnswer
 use Rattle.path.specs.Chain.{chainBetween, chainFound, chainAnswerOf, afterChain}
-use Rattle.path.specs.Neighbours.{neighboursAnswerOf, afterNeighbours}
+use Rattle.neighbouring.specs.Neighbours.{neighboursAnswerOf, afterNeighbours}
 use Rattle.sameness.specs.Sameness.{sameOverlap, sameAnswerOf}
 use Rattle.demands.specs.Refusals.{FirstNo, here, there, Refuses, Demand1}
 

@@ -14,7 +14,8 @@ use Rattle.overlap.specs.Overlap.{sharedMinutes, overlaps, sharesMinute}
 use Rattle.plan.specs.{Validation.minimumPasses, Validation.AcceptedPlan}
 use Rattle.minutes.specs.Tables.{parentOf, lastOf}
 use Rattle.numbering.specs.Tables.{componentOf, depthOf, rankOf, lastRankOf, numbersAt}
-use Rattle.path.specs.{Chain.chainBetween, Neighbours.neighboursOf}
+use Rattle.path.specs.Chain.{chainBetween}
+use Rattle.neighbouring.specs.Neighbours.{neighboursOf}
 use Rattle.sameness.specs.Sameness.{sameAnswerOf}
 use Rattle.sameness.specs.declared.SameAnswer.the-variants as SameAnswer
 use Rattle.demands.specs.Cases.{Case, CaseHolds}

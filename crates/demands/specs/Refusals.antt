@@ -34,10 +34,10 @@ use Rattle.overlap.specs.declared.margins.MarginAnswer.the-variants as MarginAn
 use Rattle.reaching.specs.Reach.{reachQuestions, reachAnswerOf}
 use Rattle.reaching.specs.declared.answers.ReachAnswer.the-variants as ReachAnswer
 use Rattle.path.specs.Chain.{chainQuestions, chainAnswerOf, afterChain}
-use Rattle.path.specs.Neighbours.{neighboursQuestions, neighboursAnswerOf, afterNeighbours}
+use Rattle.neighbouring.specs.Neighbours.{neighboursQuestions, neighboursAnswerOf, afterNeighbours}
 use Rattle.sameness.specs.Sameness.{sameQuestions, sameAnswerOf}
 use Rattle.path.specs.declared.answers.ChainAnswer.the-variants as ChainAnswer
-use Rattle.path.specs.declared.answers.NeighboursAnswer.the-variants as NeighboursAnswer
+use Rattle.neighbouring.specs.declared.neighbourhood.NeighboursAnswer.the-variants as NeighboursAnswer
 use Rattle.sameness.specs.declared.SameAnswer.the-variants as SameAnswer
 
 -- Of questions asked in order, the first that is answered "no" gives this refusal.

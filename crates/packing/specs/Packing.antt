@@ -13,8 +13,8 @@ use Rattle.reaching.specs.declared.answers.ReachAnswer.{ReachAnswer}
 use Rattle.reaching.specs.declared.answers.ReachAnswer.the-variants as reach
 use Rattle.path.specs.declared.answers.ChainAnswer.{ChainAnswer}
 use Rattle.path.specs.declared.answers.ChainAnswer.the-variants as chain
-use Rattle.path.specs.declared.answers.NeighboursAnswer.{NeighboursAnswer}
-use Rattle.path.specs.declared.answers.NeighboursAnswer.the-variants as neighbours
+use Rattle.neighbouring.specs.declared.neighbourhood.NeighboursAnswer.{NeighboursAnswer}
+use Rattle.neighbouring.specs.declared.neighbourhood.NeighboursAnswer.the-variants as neighbours
 use Rattle.sameness.specs.declared.SameAnswer.{SameAnswer}
 use Rattle.sameness.specs.declared.SameAnswer.the-variants as same
 use Rattle.tag.specs.declared.pairs.PairAnswer.{PairAnswer}

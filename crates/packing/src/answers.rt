@@ -1,8 +1,8 @@
 // Each answer as one number of 64 bits: four fields of 16 bits, the kind lowest.
+use neighbouring::NeighboursAnswer;
 use overlap::MarginAnswer;
 use page::PageAnswer;
 use path::ChainAnswer;
-use path::NeighboursAnswer;
 use plan::Validation;
 use reaching::ReachAnswer;
 use refusals::Refusal;

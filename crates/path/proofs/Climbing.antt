@@ -1,13 +1,12 @@
--- The way up from the later window: when a window stands behind the last of the earlier one, and how many steps lead to one
--- that does not.
+-- The way up from the later window, and how many steps lead to one that does not stand behind the last of the earlier one.
 -- Vocabulary: Climbing.
 -- Assumes nothing.
 use Prim.Native.Nat.{ℕ, suc, _+_, _-_, _≤_, _<_}
-use mathlib.Core.{Bool.Bool, Bool.true, Bool.false, Bool.not, Path._≡_, Path.sym, Path._∙_, Logic.⊎-elim, List.List}
+use mathlib.Core.{Bool.Bool, Path._≡_, Path.sym, Path._∙_, Logic.⊎-elim, List.List}
 use native.Mathlib.Omega.{arith}
 use native.Mathlib.Numerals.{add-one}
 use lib.Dec.{leb}
-use borrow.Author.Tests.{le-leb, lt-leb, not-true, not-false}
+use borrow.Author.Tests.{le-leb, lt-leb}
 use Rattle.sequences.proofs.Tests.{lt-or-ge}
 use Rattle.sequences.proofs.Search.{least-le, least-unique}
 use Rattle.interval_graph.specs.Tree.{last, parent, ancestor}
@@ -16,14 +15,11 @@ use Rattle.interval_graph.proofs.Parent.{parent-le, tree}
 use Rattle.interval_graph.proofs.Ancestor.{ancestor-zero, ancestor-suc, ancestor-add}
 use Rattle.interval_graph.proofs.Depth.{fixed-stays}
 use lib.ListN.{length, getD}
-use Rattle.plan.specs.declared.windows.Window.{Window}
-use Rattle.plan.specs.File.{windowCount, minimumHandover, windowAt, endOf}
-use Rattle.overlap.specs.Overlap.{overlaps, marginReaches}
-use Rattle.plan.specs.Validation.{greatestCount, AcceptedPlan}
+use Rattle.plan.specs.File.{windowCount}
+use Rattle.overlap.specs.Overlap.{overlaps}
+use Rattle.plan.specs.Validation.{greatestCount}
 use Rattle.plan.proofs.Accepted.{accepted-sound}
-use Rattle.minutes.specs.Tables.{lastOf}
 use Rattle.path.specs.Steps.{Parented}
-use Rattle.path.proofs.Meeting.{asked-reached, behind-last, not-behind}
 
 -- What the walk is handed: few windows, and an entry for each, which is its parent.
 module _ {file parents : List ℕ} (p : Parented file parents) where
@@ -42,18 +38,6 @@ pub record Climbing (n : ℕ) (overlaps : ℕ → ℕ → Bool) (u v at steps : 
   pub stands : at ≡ ancestor overlaps steps v
   pub fell : at + steps ≤ v
   pub behind : (k : ℕ) → k < steps → last n overlaps u < ancestor overlaps k v
-
--- What the test says of a window on the way, put to what was read of it and of the earlier one.
-module _ (file : List ℕ) (ok : AcceptedPlan file) (u : ℕ) (own : u < windowCount file) (v : ℕ) (within : v < windowCount file)
-    (minimum end : ℕ) (w : Window) (asked : Bool) (m : minimum ≡ minimumHandover file) (e : end ≡ endOf (windowAt file u))
-    (r : w ≡ windowAt file v) (a : asked ≡ marginReaches minimum end (w .offset)) where
-  pub past-behind : not asked ≡ true → last (windowCount file) (overlaps file) u < v
-  unfolding lastOf
-  past-behind t = behind-last file ok u own v within (asked-reached file u v minimum end w asked m e r a ∙ not-true asked t)
-
-  pub past-before : not asked ≡ false → v ≤ last (windowCount file) (overlaps file) u
-  unfolding lastOf
-  past-before t = not-behind file ok u own v within (asked-reached file u v minimum end w asked m e r a ∙ not-false asked t)
 
 module _ (n : ℕ) (overlaps : ℕ → ℕ → Bool) (u v : ℕ) where
   -- There are never more steps than windows up to v.

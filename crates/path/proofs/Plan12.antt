@@ -1,20 +1,17 @@
--- Paper 01's plan 12, from its bytes: chains and neighbours come out of the definitions by computation.
+-- Paper 01's plan 12, from its bytes: chains come out of the definitions by computation.
 -- Assumes nothing.
 use mathlib.Core.{Path._≡_, Path.refl, List.[], List._∷_}
 use Rattle.interval_graph.specs.Walk.{climb, walk, chainOf}
-use Rattle.sequences.specs.Search.{passing}
 use Rattle.plan.proofs.Plan12.{file}
 use Rattle.overlap.proofs.Plan12.{meaning}
 use Rattle.path.specs.declared.answers.ChainAnswer.the-variants.{Chain, NoChain, Refused}
-use Rattle.path.specs.declared.answers.NeighboursAnswer.the-variants as NeighboursAnswer
 use Rattle.refusals.specs.Question.{refusalBy, refusalFrom, from, positionQuestion, positionQuestions, roomQuestion}
 use Rattle.path.specs.Chain.{chainBetween, chainQuestions, chainFound, chainAnswerOf}
-use Rattle.path.specs.Neighbours.{neighboursOf, neighboursQuestions, neighboursAnswerOf}
 
 -- What a computation on the file opens.
 unfoldable answers : Unit {0}
-unfolding meaning climb walk chainOf passing from positionQuestion positionQuestions roomQuestion chainBetween chainQuestions chainFound
-    chainAnswerOf neighboursOf neighboursQuestions neighboursAnswerOf
+unfolding meaning climb walk chainOf from positionQuestion positionQuestions roomQuestion chainBetween chainQuestions chainFound
+    chainAnswerOf
 answers = tt
 
 -- "0 to 5 is 3, chain 5 4 2 0 … 3 to 5 is 3, chain 5 4 2 3 … 1 to 3 is 2, chain 3 0 1 … 5 to 6: no chain."
@@ -35,7 +32,3 @@ pub plan-12-answers : (chainAnswerOf file 0 5 4 ≡ Chain 4) × (chainAnswerOf f
     × (chainAnswerOf file 5 6 0 ≡ NoChain) × (chainAnswerOf file 6 7 9 ≡ Refused (refusalFrom 1 (refusalBy 7)))
 unfolding answers
 plan-12-answers = (refl, refl, refl, refl)
-
-pub plan-12-neighbours : (neighboursOf file 2 ≡ 0 ∷ 1 ∷ 3 ∷ 4 ∷ []) × (neighboursOf file 6 ≡ []) × (neighboursAnswerOf file 2 4 ≡ NeighboursAnswer.Neighbours 4)
-unfolding answers
-plan-12-neighbours = (refl, refl, refl)

@@ -1,7 +1,5 @@
 -- Answers from a plan, in reading order.
 --   Chain       the chain between two windows
---   Neighbours  the windows that overlap one window
 --   Steps       what the walk behind `chain` counts and writes; no public promise cites it
 pub mod Chain
-pub mod Neighbours
 pub mod Steps

@@ -1,11 +1,8 @@
-// Answers from a plan: the chain between two windows, and a window's neighbours.
+// Answers from a plan: the chain between two windows.
 mod answers;
 mod chains;
-mod neighbourhood;
 mod walk;
 mod windows;
 
 pub use answers::ChainAnswer;
-pub use answers::NeighboursAnswer;
 pub use chains::chain;
-pub use neighbourhood::neighbours;

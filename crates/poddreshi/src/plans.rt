@@ -18,7 +18,7 @@ ghost use Rattle.tree.specs.Build.{afterTags, tagsAnswerOf};
 ghost use Rattle.even_tags.specs.ShortTags.{shortTagsAnswerOf, afterShortTags};
 ghost use Rattle.reaching.specs.Reach.{reachAnswerOf};
 ghost use Rattle.path.specs.Chain.{chainBetween, chainAnswerOf, afterChain};
-ghost use Rattle.path.specs.Neighbours.{neighboursOf, neighboursAnswerOf, afterNeighbours};
+ghost use Rattle.neighbouring.specs.Neighbours.{neighboursOf, neighboursAnswerOf, afterNeighbours};
 ghost use Rattle.sameness.specs.Sameness.{sameAnswerOf};
 ghost use Rattle.packing.specs.Packing.{packedValidation, packedBuild, packedReach, packedChain, packedNeighbours, packedMargin, packedSame};
 ghost use Rattle.poddreshi.specs.Lent.{builtIn, marginAfter};
@@ -94,7 +94,7 @@ pub extern "C" fn poddreshi_neighbours(file: &[u8], at: usize, out: &mut [u16]) 
     ensures { λ r. ⌜ r ≡ packedNeighbours (neighboursAnswerOf (now (file .entry)) at (length (now (out .entry)))) ⌝ }
     ensures { λ _. ⌜ now (out .exit) ≡ afterNeighbours (neighboursAnswerOf (now (file .entry)) at (length (now (out .entry)))) (neighboursOf (now (file .entry)) at) (now (out .entry)) ⌝ }
 {
-    pack_neighbours(path::neighbours(file, at, out))
+    pack_neighbours(neighbouring::neighbours(file, at, out))
 }
 
 // The margin of two windows, which may be one: the smaller end less the greater offset.

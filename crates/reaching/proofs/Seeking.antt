@@ -2,17 +2,17 @@
 -- Vocabulary: Seeking, Passing.
 -- Assumes nothing.
 use Prim.Native.Nat.{ℕ, suc, _+_, _≤_, _<_}
-use mathlib.Core.{Bool.Bool, Bool.true, Bool.false, Bool.not, Path._≡_, Path.sym, Path._∙_, Logic.⊎-elim, List.List}
+use mathlib.Core.{Bool.Bool, Bool.true, Bool.false, Bool.not, Path._≡_, Path.ap, Path._∙_, Logic.⊎-elim, List.List}
 use native.Mathlib.Omega.{arith}
-use borrow.Author.Tests.{not-true, not-false}
-use Rattle.sequences.proofs.Tests.{lt-or-ge, true-false-absurd}
-use Rattle.interval_graph.proofs.Last.{last-ge, overlap-last, last-overlap}
+use Rattle.sequences.proofs.Tests.{lt-or-ge}
+use Rattle.interval_graph.proofs.Last.{last-ge}
 use Rattle.plan.specs.declared.windows.Window.{Window}
 use Rattle.plan.specs.File.{windowCount, minimumHandover, windowAt, endOf}
 use Rattle.plan.specs.Validation.{AcceptedPlan}
-use Rattle.overlap.specs.Overlap.{overlaps, marginReaches}
-use Rattle.overlap.proofs.Overlap.{overlaps-in-order, interval-order}
+use Rattle.overlap.specs.Overlap.{marginReaches}
+use Rattle.overlap.proofs.Overlap.{interval-order}
 use Rattle.minutes.specs.Tables.{lastOf}
+use Rattle.minutes.proofs.Reached.{asked-behind, asked-near}
 use Rattle.reaching.specs.Passes.{FirstApart}
 
 -- All windows so far overlap `top`.
@@ -32,23 +32,6 @@ module _ (file : List ℕ) (ok : AcceptedPlan file) where
   unfolding lastOf
   own-last u = last-ge (interval-order file ok) u
 
-  -- What the test says of a window and a later one, put to what was read of them.
-  module _ (u v : ℕ) (before : u < v) (within : v < windowCount file) (minimum end : ℕ) (earlier later : Window)
-      (m : minimum ≡ minimumHandover file) (e : earlier ≡ windowAt file u) (ends : end ≡ endOf earlier) (l : later ≡ windowAt file v)
-      (asked : Bool) (a : asked ≡ marginReaches minimum end (later .offset)) where
-    answered : overlaps file u v ≡ asked
-    answered = overlaps-in-order file ok u v before within ∙ sym (rw (m, ends, e, l) at a)
-
-    overlap-near : not asked ≡ false → v ≤ lastOf file u
-    unfolding lastOf
-    overlap-near t = overlap-last (interval-order file ok) u v before within (answered ∙ not-false asked t)
-
-    overlap-past : not asked ≡ true → lastOf file u < v
-    unfolding lastOf
-    overlap-past t =
-        ⊎-elim (λ l. l) (λ l. absurd (true-false-absurd _ (last-overlap (interval-order file ok) u v before l) (answered ∙ not-true asked t)))
-        (lt-or-ge (lastOf file u) v)
-
   module _ (from top : ℕ) (window : top < windowCount file) where
     pub seeking-start : from ≤ top → Seeking file from top from
     seeking-start h = record { low = omega arith; high = h; before = λ w l g. absurd (omega arith) }
@@ -66,14 +49,14 @@ module _ (file : List ℕ) (ok : AcceptedPlan file) where
             }
           where
             near : top ≤ lastOf file at
-            near = overlap-near at top within window minimum end earlier later m e ends l asked a t
+            near = asked-near file ok at (omega arith) top window minimum end later asked m (ends ∙ ap endOf e) l a t
 
         pub seeking-found : not asked ≡ true → FirstApart file from top at
         seeking-found t =
             record {
               low = s .low;
               high = s .high;
-              apart = λ h. overlap-past at top within window minimum end earlier later m e ends l asked a t;
+              apart = λ h. asked-behind file ok at (omega arith) top window minimum end later asked m (ends ∙ ap endOf e) l a t;
               before = s .before;
             }
 
@@ -93,12 +76,12 @@ module _ (file : List ℕ) (ok : AcceptedPlan file) where
           (a : asked ≡ marginReaches minimum end (later .offset)) where
         pub passing-turn : not asked ≡ false → Passing file at to (next + 1)
         passing-turn t =
-            let near = overlap-near at next (s .low) (omega arith) minimum end earlier later m e ends l asked a t in
+            let near = asked-near file ok at (omega (arith, s .low)) next (omega arith) minimum end later asked m (ends ∙ ap endOf e) l a t in
             record { low = omega (arith, s .low); high = omega arith; near = omega arith }
 
         pub passing-found : not asked ≡ true → next ≡ suc (lastOf file at)
         passing-found t =
-            let past = overlap-past at next (s .low) (omega arith) minimum end earlier later m e ends l asked a t in
+            let past = asked-behind file ok at (omega (arith, s .low)) next (omega arith) minimum end later asked m (ends ∙ ap endOf e) l a t in
             omega (arith, s .near)
 
       pub passing-ends : to ≤ next → next ≡ suc (lastOf file at)

@@ -8,8 +8,10 @@ use denote.Ref.{now}
 use Rattle.plan.specs.File.{windowCount}
 use Rattle.overlap.specs.Overlap.{overlaps}
 use Rattle.interval_graph.proofs.Parent.{parent-le}
+use Rattle.minutes.specs.Tables.{lastOf}
+use Rattle.minutes.proofs.Reached.{asked-behind, asked-near}
 use Rattle.path.proofs.Climbing.{handed-few, handed-long, handed-parent}
-use Rattle.path.proofs.Climbing.{Climbing, past-behind, past-before, climbing-start, climbing-turn, climbing-arrived, climbing-root}
+use Rattle.path.proofs.Climbing.{Climbing, climbing-start, climbing-turn, climbing-arrived, climbing-root}
 use borrow.Author.Needs.{needs}
 use Rattle.path.proofs.walk.climb_steps.Statement.{statement}
 use Rattle.path.proofs.walk.climb_steps.Tie as tie
@@ -50,10 +52,11 @@ add-result c = let d = c .before .before .before .before .before .before .before
     omega (arith, handed-few (d .pre .0))
 
 returns : tie.Need-returns Inv-loop μ-loop
+unfolding lastOf
 returns c = let r = c .before .before .before in let s = r .before .before in let d = s .before .before .before .before .before in
     let q = d .pre in
     let within : s .loop .at < windowCount (now (d .args .file)) = omega (arith, s .loop .inv .fell) in
-    climbing-root _ _ _ _ _ _ (s .loop .inv) (past-behind _ (q .0 .accepted) _ (q .1 .0) _ within _ _ _ _
+    climbing-root _ _ _ _ _ _ (s .loop .inv) (asked-behind _ (q .0 .accepted) _ (q .1 .0) _ within _ _ _ _
     (s .before .before .minimum-handover .ensures) (s .before .end-at .ensures) (r .before .window-at .ensures) (r .reaches .ensures)
     (c .before .before .if1 .taken)) (sym (c .if2 .taken) ∙ handed-parent (q .0) _ within)
 
@@ -69,16 +72,18 @@ loop-less c = let s = c .before .before .before .before .before in let d = s .be
     )
 
 loop-again : tie.Need-loop-again Inv-loop μ-loop
+unfolding lastOf
 loop-again c = let r = c .before .before .before in let s = r .before .before in let d = s .before .before .before .before .before in
     let q = d .pre in
     let within : s .loop .at < windowCount (now (d .args .file)) = omega (arith, s .loop .inv .fell) in
-    climbing-turn _ _ _ _ _ _ (s .loop .inv) _ (past-behind _ (q .0 .accepted) _ (q .1 .0) _ within _ _ _ _
+    climbing-turn _ _ _ _ _ _ (s .loop .inv) _ (asked-behind _ (q .0 .accepted) _ (q .1 .0) _ within _ _ _ _
     (s .before .before .minimum-handover .ensures) (s .before .end-at .ensures) (r .before .window-at .ensures) (r .reaches .ensures)
     (c .before .before .if1 .taken)) (handed-parent (q .0) _ within) (c .if2 .left)
 
 returns-2 : tie.Need-returns-2 Inv-loop μ-loop
+unfolding lastOf
 returns-2 c = let r = c .before in let s = r .before .before in let q = s .before .before .before .before .before .pre in
-    climbing-arrived _ _ _ _ _ _ (s .loop .inv) (past-before _ (q .0 .accepted) _ (q .1 .0) _ (omega (arith, s .loop .inv .fell)) _ _ _ _
+    climbing-arrived _ _ _ _ _ _ (s .loop .inv) (asked-near _ (q .0 .accepted) _ (q .1 .0) _ (omega (arith, s .loop .inv .fell)) _ _ _ _
     (s .before .before .minimum-handover .ensures) (s .before .end-at .ensures) (r .before .window-at .ensures) (r .reaches .ensures)
     (c .if1 .left))
 

@@ -1,4 +1,4 @@
--- `path::neighbourhood::write_earlier` meets its contract. The loop's invariant is `Listed`; the measure is what is left of the windows
+-- `neighbouring::neighbourhood::write_earlier` meets its contract. The loop's invariant is `Listed`; the measure is what is left of the windows
 -- before.
 -- Assumes nothing.
 use Prim.Native.Nat.{_-_}
@@ -7,11 +7,11 @@ use native.Mathlib.Omega.{arith}
 use denote.Ref.{now}
 use Rattle.overlap.specs.Overlap.{overlaps}
 use Rattle.plan.proofs.Counted.{window-within}
-use Rattle.path.proofs.Meeting.{meets-earlier}
-use Rattle.path.proofs.Neighbouring.{Listed, listed-start, listed-room, listed-more, listed-kept, listed-end, counted-few, counted-end}
+use Rattle.neighbouring.proofs.Meeting.{meets-earlier}
+use Rattle.neighbouring.proofs.Neighbouring.{Listed, listed-start, listed-room, listed-more, listed-kept, listed-end, counted-few, counted-end}
 use borrow.Author.Needs.{needs}
-use Rattle.path.proofs.neighbourhood.write_earlier.Statement.{statement}
-use Rattle.path.proofs.neighbourhood.write_earlier.Tie as tie
+use Rattle.neighbouring.proofs.neighbourhood.write_earlier.Statement.{statement}
+use Rattle.neighbouring.proofs.neighbourhood.write_earlier.Tie as tie
 
 abbrev Inv-loop : tie.InvT-loop
 Inv-loop file at out₀ minimum offset found₀ position₀ out found position = Listed (overlaps file at) at out₀ out found position

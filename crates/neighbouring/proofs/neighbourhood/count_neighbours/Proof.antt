@@ -1,4 +1,4 @@
--- `path::neighbourhood::count_neighbours` meets its contract. The loop's invariant is `Counted`; the measure is what is left of the
+-- `neighbouring::neighbourhood::count_neighbours` meets its contract. The loop's invariant is `Counted`; the measure is what is left of the
 -- windows before.
 -- Assumes nothing.
 use Prim.Native.Nat.{_-_}
@@ -6,11 +6,11 @@ use native.Mathlib.Omega.{arith}
 use denote.Ref.{now}
 use Rattle.sequences.proofs.Tests.{byte-most}
 use Rattle.overlap.specs.Overlap.{overlaps}
-use Rattle.path.proofs.Meeting.{last-within, meets-earlier}
-use Rattle.path.proofs.Neighbouring.{Counted, counted-start, counted-turn, counted-few, counted-end, neighbours-counted}
+use Rattle.neighbouring.proofs.Meeting.{last-within, meets-earlier}
+use Rattle.neighbouring.proofs.Neighbouring.{Counted, counted-start, counted-turn, counted-few, counted-end, neighbours-counted}
 use borrow.Author.Needs.{needs}
-use Rattle.path.proofs.neighbourhood.count_neighbours.Statement.{statement}
-use Rattle.path.proofs.neighbourhood.count_neighbours.Tie as tie
+use Rattle.neighbouring.proofs.neighbourhood.count_neighbours.Statement.{statement}
+use Rattle.neighbouring.proofs.neighbourhood.count_neighbours.Tie as tie
 
 abbrev Inv-loop : tie.InvT-loop
 Inv-loop file at last minimum offset earlier₀ position₀ earlier position = Counted (overlaps file at) at earlier position

@@ -1,11 +1,11 @@
--- `path::neighbourhood::write_run` meets its contract. The loop's invariant is `Running`; the measure is what is left of the run.
+-- `neighbouring::neighbourhood::write_run` meets its contract. The loop's invariant is `Running`; the measure is what is left of the run.
 -- Assumes nothing.
 use Prim.Native.Nat.{_-_}
 use native.Mathlib.Omega.{arith}
-use Rattle.path.proofs.Neighbouring.{Running, running-start, running-turn, running-end}
+use Rattle.neighbouring.proofs.Neighbouring.{Running, running-start, running-turn, running-end}
 use borrow.Author.Needs.{needs}
-use Rattle.path.proofs.neighbourhood.write_run.Statement.{statement}
-use Rattle.path.proofs.neighbourhood.write_run.Tie as tie
+use Rattle.neighbouring.proofs.neighbourhood.write_run.Statement.{statement}
+use Rattle.neighbouring.proofs.neighbourhood.write_run.Tie as tie
 
 abbrev Inv-loop : tie.InvT-loop
 Inv-loop from many written out₀ step₀ out step = Running from many written out₀ out step

@@ -1,13 +1,14 @@
--- `path::neighbourhood::last_at` meets its contract. The loop's invariant is `Halving`; the measure is how far its two windows lie apart.
+-- `neighbouring::neighbourhood::last_at` meets its contract. The loop's invariant is `Halving`; the measure is how far its two windows lie apart.
 -- Assumes nothing.
 use Prim.Native.Nat.{_-_}
 use mathlib.Core.Path.{_∙_}
 use native.Mathlib.Omega.{arith}
 use Rattle.plan.proofs.Counted.{windows-few}
-use Rattle.path.proofs.Meeting.{asked-reached, Halving, halving-start, halving-up, halving-down, halving-found}
+use Rattle.minutes.proofs.Reached.{asked-reached}
+use Rattle.neighbouring.proofs.Meeting.{Halving, halving-start, halving-up, halving-down, halving-found}
 use borrow.Author.Needs.{needs}
-use Rattle.path.proofs.neighbourhood.last_at.Statement.{statement}
-use Rattle.path.proofs.neighbourhood.last_at.Tie as tie
+use Rattle.neighbouring.proofs.neighbourhood.last_at.Statement.{statement}
+use Rattle.neighbouring.proofs.neighbourhood.last_at.Tie as tie
 
 abbrev Inv-loop : tie.InvT-loop
 Inv-loop file windows at minimum end low₀ high₀ low high = Halving file at low high

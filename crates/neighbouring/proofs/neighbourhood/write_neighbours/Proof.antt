@@ -1,13 +1,13 @@
--- `path::neighbourhood::write_neighbours` meets its contract: the neighbours before the window, and the run of those behind it.
+-- `neighbouring::neighbourhood::write_neighbours` meets its contract: the neighbours before the window, and the run of those behind it.
 -- Assumes nothing.
 use mathlib.Core.Path.{refl}
 use native.Mathlib.Omega.{arith}
 use denote.Ref.{now}
-use Rattle.path.proofs.Meeting.{last-within}
-use Rattle.path.proofs.Neighbouring.{neighbours-counted, neighbours-written}
+use Rattle.neighbouring.proofs.Meeting.{last-within}
+use Rattle.neighbouring.proofs.Neighbouring.{neighbours-counted, neighbours-written}
 use borrow.Author.Needs.{needs}
-use Rattle.path.proofs.neighbourhood.write_neighbours.Statement.{statement}
-use Rattle.path.proofs.neighbourhood.write_neighbours.Tie as tie
+use Rattle.neighbouring.proofs.neighbourhood.write_neighbours.Statement.{statement}
+use Rattle.neighbouring.proofs.neighbourhood.write_neighbours.Tie as tie
 
 write-earlier-requires : tie.Need-write-earlier-requires
 write-earlier-requires c κs = let d = c .before .before .before in let q = d .pre in

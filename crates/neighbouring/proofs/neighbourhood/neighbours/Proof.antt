@@ -1,12 +1,12 @@
--- `path::neighbourhood::neighbours` meets its contract: the validation's refusal, or what is answered among the plan's windows.
+-- `neighbouring::neighbourhood::neighbours` meets its contract: the validation's refusal, or what is answered among the plan's windows.
 -- Assumes nothing.
 use mathlib.Core.Path.{refl}
-use Rattle.path.specs.Neighbours.{afterNeighbours}
+use Rattle.neighbouring.specs.Neighbours.{afterNeighbours}
 use Rattle.plan.proofs.Counted.{validated-windows}
-use Rattle.path.proofs.Neighbouring.{neighbours-refused}
+use Rattle.neighbouring.proofs.Neighbouring.{neighbours-refused}
 use borrow.Author.Needs.{needs}
-use Rattle.path.proofs.neighbourhood.neighbours.Statement.{statement}
-use Rattle.path.proofs.neighbourhood.neighbours.Tie as tie
+use Rattle.neighbouring.proofs.neighbourhood.neighbours.Statement.{statement}
+use Rattle.neighbouring.proofs.neighbourhood.neighbours.Tie as tie
 
 validate-requires : tie.Need-validate-requires
 validate-requires c κs = search needs

@@ -1,6 +1,5 @@
 // The windows that overlap one window: some of those before it, and behind it all up to its last. They are counted first, so that nothing
 // is written where they do not fit.
-use crate::answers::NeighboursAnswer;
 use crate::windows::end_at;
 use crate::windows::window_at;
 use plan::Validation;
@@ -16,7 +15,13 @@ ghost use Rattle.overlap.specs.Overlap.{overlaps};
 ghost use Rattle.plan.specs.Validation.{AcceptedPlan};
 ghost use Rattle.plan.specs.AcceptedWindows.{AcceptedWindows};
 ghost use Rattle.minutes.specs.Tables.{lastOf};
-ghost use Rattle.path.specs.Neighbours.{neighboursOf, neighboursAnswerOf, afterNeighbours};
+ghost use Rattle.neighbouring.specs.Neighbours.{neighboursOf, neighboursAnswerOf, afterNeighbours};
+
+pub enum NeighboursAnswer {
+    // How many positions were written.
+    Neighbours(u16),
+    Refused(Refusal),
+}
 
 // The last window that the one at a position overlaps, or that one where it overlaps none behind it. Offsets do not fall, so half of
 // what is left is passed over at a time.

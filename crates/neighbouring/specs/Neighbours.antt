@@ -10,8 +10,8 @@ use Rattle.refusals.specs.Question.{Question, positionQuestion, roomQuestion, f
 use Rattle.plan.specs.File.{windowCount}
 use Rattle.overlap.specs.Overlap.{overlaps}
 use Rattle.plan.specs.Validation.{planQuestions}
-use Rattle.path.specs.declared.answers.NeighboursAnswer.{NeighboursAnswer}
-use Rattle.path.specs.declared.answers.NeighboursAnswer.the-variants.{Neighbours, Refused}
+use Rattle.neighbouring.specs.declared.neighbourhood.NeighboursAnswer.{NeighboursAnswer}
+use Rattle.neighbouring.specs.declared.neighbourhood.NeighboursAnswer.the-variants.{Neighbours, Refused}
 
 -- The positions of a plan file whose windows overlap the one at a position, rising. (No window overlaps itself.)
 unfoldable pub neighboursOf : List ℕ → ℕ → List ℕ

@@ -1,31 +1,22 @@
--- Which windows of an accepted plan overlap one of them, as the code asks it. Against the end of u the test fails for those that stand
--- behind its last, and for no others; and a window before u overlaps it if the test on that one's end says so.
--- Vocabulary: reached, behind-last, not-behind, Halving.
+-- Which windows of an accepted plan overlap one of them, as the code asks it: the search for its last, and the test on a window before it.
+-- Vocabulary: Halving, meets-earlier.
 -- Assumes nothing.
 use Prim.Native.Nat.{ℕ, _+_, _≤_, _<_}
-use mathlib.Core.{Bool.Bool, Bool.true, Bool.false, Path._≡_, Path.sym, Path._∙_, Logic.⊎-elim, List.List}
+use mathlib.Core.{Bool.Bool, Bool.true, Bool.false, Path._≡_, Path._∙_, Logic.⊎-elim, List.List}
 use native.Mathlib.{Omega.arith, Nat.le-antisymm}
-use borrow.Author.Tests.{leb-false, le-leb}
-use Rattle.sequences.proofs.Tests.{lt-or-ge, true-false-absurd}
+use borrow.Author.Tests.{le-leb}
+use Rattle.sequences.proofs.Tests.{lt-or-ge}
 use Rattle.interval_graph.specs.Order.{IntervalOrder}
-use Rattle.interval_graph.proofs.Last.{last-ge, last-below, overlap-last, last-overlap}
+use Rattle.interval_graph.proofs.Last.{last-ge, last-below}
 use Rattle.plan.specs.declared.windows.Window.{Window}
 use Rattle.plan.specs.File.{windowCount, minimumHandover, windowAt, endOf}
 use Rattle.plan.specs.Validation.{greatestCount, AcceptedPlan}
-use Rattle.plan.proofs.Accepted.{Sound, accepted-sound, offsets-sorted}
+use Rattle.plan.proofs.Accepted.{Sound, accepted-sound}
 use Rattle.plan.proofs.Counted.{needed-least}
 use Rattle.overlap.specs.Overlap.{overlaps, marginReaches}
 use Rattle.overlap.proofs.Overlap.{overlaps-in-order, interval-order}
 use Rattle.minutes.specs.Tables.{lastOf}
-
--- The test on the end of the window at u and the offset of the one at v.
-abbrev pub reached : List ℕ → ℕ → ℕ → Bool
-reached file u v = marginReaches (minimumHandover file) (endOf (windowAt file u)) (windowAt file v .offset)
-
--- It was put to what was read of the two.
-pub asked-reached : (file : List ℕ) (u v minimum end : ℕ) (w : Window) (asked : Bool) → minimum ≡ minimumHandover file →
-    end ≡ endOf (windowAt file u) → w ≡ windowAt file v → asked ≡ marginReaches minimum end (w .offset) → reached file u v ≡ asked
-asked-reached file u v minimum end w asked m e r a = sym (rw (m, e, r) at a)
+use Rattle.minutes.proofs.Reached.{reached, asked-reached, behind-last, not-behind}
 
 -- The search for the last of u: a window that the test holds for, and one behind it that it does not, or the end of the plan.
 pub record Halving (file : List ℕ) (u low high : ℕ) : Type 0 where
@@ -49,25 +40,6 @@ module _ (file : List ℕ) (ok : AcceptedPlan file) (u : ℕ) (own : u < windowC
   sound : Sound file
   sound = accepted-sound file ok
 
-  pub behind-last : (v : ℕ) → v < windowCount file → reached file u v ≡ false → lastOf file u < v
-  unfolding marginReaches lastOf
-  behind-last v within past =
-      ⊎-elim (λ h. ⊎-elim (λ l. l)
-      (λ l. absurd (true-false-absurd _ (last-overlap order u v h l) (overlaps-in-order file ok u v h within ∙ past)))
-      (lt-or-ge (lastOf file u) v))
-      (λ h. absurd (omega (
-        arith,
-        leb-false (windowAt file v .offset + minimumHandover file) (endOf (windowAt file u)) past,
-        needed-least file ok u own,
-        offsets-sorted file sound v u h own,
-      ))) (lt-or-ge u v)
-
-  pub not-behind : (v : ℕ) → v < windowCount file → reached file u v ≡ true → v ≤ lastOf file u
-  unfolding lastOf
-  not-behind v within near =
-      ⊎-elim (λ h. overlap-last order u v h within (overlaps-in-order file ok u v h within ∙ near))
-      (λ h. omega (arith, last-ge order u)) (lt-or-ge u v)
-
   pub last-within : (u ≤ lastOf file u) × (lastOf file u < windowCount file) × (lastOf file u < greatestCount)
   unfolding lastOf
   last-within = (last-ge order u, last-below order u own, omega (arith, last-below order u own, sound .few))
@@ -79,8 +51,8 @@ module _ (file : List ℕ) (ok : AcceptedPlan file) (u : ℕ) (own : u < windowC
 
   pub halving-found : (low high : ℕ) → high ≤ low + 1 → Halving file u low high → low ≡ lastOf file u
   halving-found low high closed s =
-      le-antisymm (not-behind low (omega (arith, s .some, s .stop)) (s .before)) (⊎-elim
-      (λ h. omega (arith, behind-last high h (s .past h))) (λ h. omega (arith, last-within)) (lt-or-ge high (windowCount file)))
+      le-antisymm (not-behind file ok u own low (omega (arith, s .some, s .stop)) (s .before)) (⊎-elim
+      (λ h. omega (arith, behind-last file ok u own high h (s .past h))) (λ h. omega (arith, last-within)) (lt-or-ge high (windowCount file)))
 
   -- A window before u.
   pub meets-earlier : (v minimum end : ℕ) (w : Window) (asked : Bool) → v < u → minimum ≡ minimumHandover file →

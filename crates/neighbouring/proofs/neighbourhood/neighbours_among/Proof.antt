@@ -1,14 +1,14 @@
--- `path::neighbourhood::neighbours_among` meets its contract: questions 7 and 8, and then the list.
+-- `neighbouring::neighbourhood::neighbours_among` meets its contract: questions 7 and 8, and then the list.
 -- Assumes nothing.
 use mathlib.Core.Path.{refl}
 use native.Mathlib.Omega.{arith}
 use denote.Ref.{now}
-use Rattle.path.specs.Neighbours.{afterNeighbours}
+use Rattle.neighbouring.specs.Neighbours.{afterNeighbours}
 use Rattle.plan.proofs.Counted.{windows-few}
-use Rattle.path.proofs.Neighbouring.{neighbours-few, neighbours-past, neighbours-short, neighbours-listed}
+use Rattle.neighbouring.proofs.Neighbouring.{neighbours-few, neighbours-past, neighbours-short, neighbours-listed}
 use borrow.Author.Needs.{needs}
-use Rattle.path.proofs.neighbourhood.neighbours_among.Statement.{statement}
-use Rattle.path.proofs.neighbourhood.neighbours_among.Tie as tie
+use Rattle.neighbouring.proofs.neighbourhood.neighbours_among.Statement.{statement}
+use Rattle.neighbouring.proofs.neighbourhood.neighbours_among.Tie as tie
 
 by-requires : tie.Need-by-requires
 by-requires c κs = search needs

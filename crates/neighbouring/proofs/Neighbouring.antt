@@ -27,9 +27,9 @@ use Rattle.plan.specs.AcceptedWindows.{AcceptedWindows}
 use Rattle.plan.proofs.Calls.{plan-refused, plan-passed}
 use Rattle.overlap.proofs.Overlap.{interval-order}
 use Rattle.minutes.specs.Tables.{lastOf}
-use Rattle.path.specs.declared.answers.NeighboursAnswer.the-variants.{Neighbours, Refused}
-use Rattle.path.specs.Neighbours.{neighboursOf, neighboursQuestions, neighboursAnswerOf}
-use Rattle.path.proofs.Meeting.{last-within}
+use Rattle.neighbouring.specs.declared.neighbourhood.NeighboursAnswer.the-variants.{Neighbours, Refused}
+use Rattle.neighbouring.specs.Neighbours.{neighboursOf, neighboursQuestions, neighboursAnswerOf}
+use Rattle.neighbouring.proofs.Meeting.{last-within}
 
 -- Before the position v of n: so many passed the test.
 pub record Counted (p : ℕ → Bool) (n found v : ℕ) : Type 0 where

@@ -1,0 +1,3 @@
+-- Answers from a plan.
+--   Neighbours  the windows that overlap one window
+pub mod Neighbours
