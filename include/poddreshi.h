@@ -13,7 +13,7 @@
  * THE PROMISES below are proved for every input, for the machine that the language defines; the compiler behind it and this
  * header are tested (tests/). They hold where a caller keeps C's side:
  *   - a pointer leads to as many elements as the length behind it says, also where that is 0 (it is then not read, but give
- *     any pointer that is not null);
+ *     any pointer that is not null), and to one where no length stands behind it (`offset`, `margin`);
  *   - what a call writes to (a pointer with no const) shares no memory with anything else that is passed to it.
  *
  * A REFUSAL ALTERS NOTHING that is lent. Where a call writes, what lies past the written entries stays.
@@ -46,7 +46,7 @@
 #define PODDRESHI_H
 
 /* The version of the library that this header belongs to. */
-#define PODDRESHI_VERSION "3.1.0"
+#define PODDRESHI_VERSION "3.2.0"
 
 #include <stddef.h>
 #include <stdint.h>
@@ -69,7 +69,8 @@ enum {
     PODDRESHI_HANDOVERS = 9,
     PODDRESHI_FOUND = 10,
     PODDRESHI_WRITTEN = 11,
-    PODDRESHI_FILLED = 12
+    PODDRESHI_FILLED = 12,
+    PODDRESHI_MARGIN = 13
 };
 
 enum {
@@ -141,6 +142,14 @@ uint64_t poddreshi_chain(const uint8_t *file, size_t file_length, size_t first, 
 /* The windows that overlap one window. The plan's questions, 7 and 8.
  * NEIGHBOURS: how many; their positions are written, rising, without the window itself. */
 uint64_t poddreshi_neighbours(const uint8_t *file, size_t file_length, size_t at, uint16_t *out, size_t out_length);
+
+/* The margin between two windows. The plan's questions, and 7 for the first position and then the second.
+ * MARGIN: *margin is set to the smaller of their two ends less the greater of their two offsets. Above 0 it is the number of minutes
+ *     that both cover; it is 0 where one ends just as the other begins; and below 0 it is, with its sign turned, the number of
+ *     minutes between them. Of one window named twice it is the window's length. The order of the two makes no difference. Two
+ *     different windows overlap exactly where it is at least the plan's minimum handover: those with a margin above 0 and below
+ *     the minimum share minutes and do not overlap. */
+uint64_t poddreshi_margin(const uint8_t *file, size_t file_length, size_t first, size_t second, int64_t *margin);
 
 /* Are two plans the same: equal numbers of windows, and the same pairs of positions overlap, in each by its own minimum? The plan's
  * questions for the first file, and then for the second.

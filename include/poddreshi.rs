@@ -38,6 +38,7 @@ extern "C" {
     pub fn poddreshi_reach(file: *const u8, length: usize, at: usize) -> u64;
     pub fn poddreshi_chain(file: *const u8, length: usize, first: usize, second: usize, out: *mut u16, out_length: usize) -> u64;
     pub fn poddreshi_neighbours(file: *const u8, length: usize, at: usize, out: *mut u16, out_length: usize) -> u64;
+    pub fn poddreshi_margin(file: *const u8, length: usize, first: usize, second: usize, margin: *mut i64) -> u64;
     pub fn poddreshi_same(first: *const u8, first_length: usize, second: *const u8, second_length: usize) -> u64;
     pub fn poddreshi_pair(first: *const u8, first_length: usize, second: *const u8, second_length: usize) -> u64;
     pub fn poddreshi_pair_at(tags: *const u8, length: usize, first: usize, second: usize) -> u64;

@@ -37,6 +37,14 @@ Two windows overlap when they share at least the plan's minimum handover, which 
     >>> poddreshi.chain(bolting, 0, 2)
     Chain(positions=(2, 1, 0))
 
+The margin of two windows is the number of minutes that they share, whatever the minimum is; 0 where one ends as the other begins; and
+below 0 for the minutes between them.
+
+    >>> poddreshi.margin(bolting, 0, 2)
+    10
+    >>> [poddreshi.margin(plan, 4, at) for at in (2, 6, 0)]
+    [4, 0, -2]
+
 Where no window of a plan ends before the one ahead of it, short tags of eight bytes are enough.
 
     >>> even = pathlib.Path("examples/even.plan").read_bytes()
@@ -49,7 +57,8 @@ or from PODDRESHI_LIBRARY.
 """
 from ._version import __version__
 from .calls import Accepted, Chain, Changed, Handovers, Neighbours, Reach, Sameness, ShortTag, Tag, Tags, Tree
-from .calls import add, build, chain, lookup, neighbours, page, pair, pair_at, reach, read, same, tags, validate, withdraw, write
+from .calls import add, build, chain, lookup, margin, neighbours, page, pair, pair_at, reach, read, same, tags
+from .calls import validate, withdraw, write
 from .calls import short_lookup, short_pair, short_pair_at, short_read, short_tags, short_write
 from .library import LibraryMissing
 from .oldplans import renewed
@@ -58,7 +67,7 @@ from .refusals import Refused
 
 __all__ = [
     *("Accepted", "Chain", "Changed", "Handovers", "LibraryMissing", "Neighbours", "Reach", "Refused", "Sameness", "ShortTag"),
-    *("Tag", "Tags", "Tree", "Window", "__version__", "add", "build", "chain", "lookup", "minimum_of", "neighbours", "pack"),
-    *("page", "pair", "pair_at", "reach", "read", "renewed", "same", "short_lookup", "short_pair", "short_pair_at", "short_read"),
-    *("short_tags", "short_write", "tags", "validate", "windows_of", "withdraw", "write"),
+    *("Tag", "Tags", "Tree", "Window", "__version__", "add", "build", "chain", "lookup", "margin", "minimum_of", "neighbours"),
+    *("pack", "page", "pair", "pair_at", "reach", "read", "renewed", "same", "short_lookup", "short_pair", "short_pair_at"),
+    *("short_read", "short_tags", "short_write", "tags", "validate", "windows_of", "withdraw", "write"),
 ]

@@ -86,13 +86,13 @@ def option(*names: str, **options) -> Argument:
     return lambda parser: parser.add_argument(*names, **options)
 
 
-def forms(*others: str, output: Optional[Argument] = None) -> Argument:
-    """The forms of an answer beside text, and where it goes, or what else the command writes."""
+def forms(*others: str, output: Optional[Argument] = None, **worded: str) -> Argument:
+    """The forms of an answer beside text, some with words of their own, and where it goes, or what else the command writes."""
 
     def add(parser: Parser) -> None:
         group = parser.add_mutually_exclusive_group()
-        for form in ("csv", "json", *others):
-            words = f"answer as {form.upper()}"
+        for form in ("csv", "json", *others, *worded):
+            words = worded.get(form, f"answer as {form.upper()}")
             group.add_argument(f"--{form}", dest="form", action="store_const", const=form, default="text", help=words)
         (output or OUTPUT)(parser)
 

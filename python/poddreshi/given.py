@@ -23,16 +23,26 @@ class Given(NamedTuple):
     def minimum_words(self) -> str:
         return f"minimum handover {self.clock.tell_length(self.minimum)}"
 
+    def margin_words(self, margin: int) -> str:
+        """`shares 3 minutes`, `touches`, `1 minute apart`."""
+        length = self.clock.tell_length(abs(margin))
+        return f"shares {length}" if margin > 0 else f"{length} apart" if margin < 0 else "touches"
+
     def shown(self, position: int) -> list:
         """A row of a table: the window, its name, begin and end."""
         window = self.windows[position]
         return [str(position), self.names[position], self.clock.show(window.offset), self.clock.show(window.end)]
 
-    def lines(self, positions: Sequence[int]) -> str:
-        """A line for each of these windows, where names or dates were asked for; otherwise none."""
-        if not positions or not (any(self.names) or self.clock.origin):
+    def lines(self, positions: Sequence[int], beside: Sequence[str] = ()) -> str:
+        """A line for each of these windows, where names or dates were asked for or there are words to stand beside each; otherwise
+        none. Without names and dates the words stand beside the positions alone."""
+        told = any(self.names) or self.clock.origin
+        if not positions or not (told or beside):
             return ""
-        return aligned([self.shown(position) for position in positions], right=(0,))
+        rows = [self.shown(position) if told else [str(position)] for position in positions]
+        if beside:
+            rows = [[*row, words] for row, words in zip(rows, beside)]
+        return aligned(rows, right=(0,))
 
     def data(self, position: int) -> dict:
         """The same for JSON."""

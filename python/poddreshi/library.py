@@ -32,6 +32,7 @@ CALLS = {
     "reach": _READ + _AT,
     "chain": _READ + 2 * _AT + _TABLE,
     "neighbours": _READ + _AT + _TABLE,
+    "margin": _READ + 2 * _AT + (ctypes.POINTER(ctypes.c_int64),),
     "same": 2 * _READ,
     "pair": 2 * _READ,
     "pair_at": _READ + 2 * _AT,
@@ -46,7 +47,7 @@ CALLS = {
 
 
 # What the first field of an answer says, from 0.
-_KINDS = "REFUSED ACCEPTED BUILT REACH CHAIN NO_CHAIN NEIGHBOURS SAME DIFFERENT HANDOVERS FOUND WRITTEN FILLED"
+_KINDS = "REFUSED ACCEPTED BUILT REACH CHAIN NO_CHAIN NEIGHBOURS SAME DIFFERENT HANDOVERS FOUND WRITTEN FILLED MARGIN"
 Kind = IntEnum("Kind", _KINDS, start=0)
 
 
@@ -108,6 +109,11 @@ def room(length: int) -> tuple:
 def offset() -> ctypes.c_size_t:
     """Room for the place of a tag."""
     return ctypes.c_size_t()
+
+
+def margin() -> ctypes.c_int64:
+    """Room for a margin, which has a sign."""
+    return ctypes.c_int64()
 
 
 def position(at: int) -> int:

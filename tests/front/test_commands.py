@@ -209,6 +209,9 @@ class Commands(Case):
             ("chain", self.plan, 1, "1" * 41),
             ("tag", self.tags, "1.5"),
             ("reach", self.plan, "٣"),
+            ("margin", self.plan, 1),
+            ("margin", self.plan, 1, "x"),
+            ("margin", self.plan, 1, 2, "--number", "--json"),
             ("count", "-", "-"),
             ("count", self.tags, 1, 2, "--all"),
             ("same", "-", "-"),
@@ -262,6 +265,7 @@ class Commands(Case):
                 *(("chain", self.plan, 0, 1, "--names", "-"), ("chain", "-", 0, 1, "--names", names), ("list", "-", "--csv")),
                 *(("tags", "-", "--short"), ("count", "-", 0, "--all", "--short"), ("explain", "-", "--short")),
                 *(("reach", "-"), ("reach", "-", 0, "--json"), ("draw", "-", "--reach", 0)),
+                *(("margin", "-", 0, 1, "--number"), ("neighbours", "-", 0, "--margins")),
                 *(("page", "-", "--all"), ("page", self.tags, "-", "--json"), ("page", "-", pairs, "--csv")),
             ):
                 done = self.run_front(*words, stdin=bytes(altered))

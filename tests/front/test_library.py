@@ -30,6 +30,7 @@ class Answers(unittest.TestCase):
         self.assertEqual(poddreshi.chain(PLAN_12, 5, 6).positions, None)
         self.assertEqual(poddreshi.neighbours(PLAN_12, 2).positions, (0, 1, 3, 4))
         self.assertEqual(poddreshi.reach(PLAN_12, 0), (3, 0, 5))
+        self.assertEqual([poddreshi.margin(PLAN_12, 4, at) for at in (2, 6, 0)], [4, 0, -2])
         self.assertTrue(poddreshi.same(PLAN_12, PLAN_12).same)
         self.assertFalse(poddreshi.same(PLAN_12, plan()).same)
 
@@ -113,15 +114,32 @@ class Interface(unittest.TestCase):
     def test_every_call_of_the_header(self):
         found = dict(re.findall(r"^uint64_t poddreshi_(\w+)\(([^;]*)\);", self.HEADER, re.M | re.S))
         self.assertEqual(set(library.CALLS), set(found))
-        lent = ("uint8_t", "uint16_t", "size_t", "struct poddreshi_query")
-        sizes = {f"{kind} *": ctypes.c_void_p for kind in lent}
         numbers = {"size_t": ctypes.c_size_t, "uint16_t": ctypes.c_uint16, "uint32_t": ctypes.c_uint32}
+        lent = {**numbers, "uint8_t": ctypes.c_uint8, "int64_t": ctypes.c_int64, "struct poddreshi_query": library.Query}
         for name, arguments in found.items():
             for declared, here in zip(re.split(r",\s*", arguments), library.CALLS[name]):
                 kind = re.sub(r"\w+$", "", declared.replace("const ", "")).strip()
-                wanted = sizes.get(kind) or numbers[kind]
-                self.assertEqual(ctypes.sizeof(here), ctypes.sizeof(wanted), (name, declared))
+                if not kind.endswith(" *"):
+                    self.assertIs(here, numbers[kind], (name, declared))
+                elif here is not ctypes.c_void_p or "const " not in declared:  # bytes to be read are lent with no kind
+                    self.assertIs(here._type_, lent[kind[:-2]], (name, declared))
             self.assertEqual(len(re.split(r",\s*", arguments)), len(library.CALLS[name]), name)
+
+    def test_every_call_in_rust(self):
+        """Its declarations have the header's calls, with as many arguments of the same kinds."""
+        rust = (ROOT / "include" / "poddreshi.rs").read_text(encoding="utf-8")
+        kinds = {"u8": "uint8_t", "u16": "uint16_t", "u32": "uint32_t", "i64": "int64_t", "usize": "size_t"}
+        kinds["Query"] = "struct poddreshi_query"
+
+        def in_c(argument: str) -> str:
+            lent, kind = re.fullmatch(r"\w+: (\*const |\*mut )?(\w+)", argument).groups()
+            return ("const " if lent == "*const " else "") + kinds[kind] + (" *" if lent else "")
+
+        found = re.findall(r"^    pub fn poddreshi_(\w+)\(([^)]*)\) -> u64;", rust, re.M)
+        declared = {name: [in_c(each) for each in re.split(r",\s*", arguments.strip(", \n"))] for name, arguments in found}
+        header = re.findall(r"^uint64_t poddreshi_(\w+)\(([^;]*)\);", self.HEADER, re.M | re.S)
+        wanted = {name: [re.sub(r"\w+$", "", each).strip() for each in re.split(r",\s*", arguments)] for name, arguments in header}
+        self.assertEqual(declared, wanted)
 
     def test_the_record_of_the_header(self):
         (fields,) = re.findall(r"^struct poddreshi_query \{\n(.*?)^\};", self.HEADER, re.M | re.S)
@@ -176,7 +194,7 @@ class Interface(unittest.TestCase):
         before = os.getcwd()
         os.chdir(ROOT)
         self.addCleanup(os.chdir, before)
-        self.assertEqual(doctest.testmod(poddreshi), (0, 16))
+        self.assertEqual(doctest.testmod(poddreshi), (0, 18))
 
 
 if __name__ == "__main__":

@@ -1,9 +1,9 @@
-"""chain, neighbours, reach, same: answers from plans."""
+"""chain, neighbours, margin, reach, same: answers from plans."""
 import itertools
 from typing import Optional, Sequence, Tuple
 
 from .. import calls, files
-from ..commandline import NAMES, ORIGIN, PLAN, command, exit_code, forms, given, once, word
+from ..commandline import NAMES, ORIGIN, PLAN, command, exit_code, forms, given, once, option, word
 from ..figures import PLAN_LIMIT
 from ..given import Given
 from ..plans import minimum_of
@@ -12,10 +12,21 @@ from ..wording import counted, ordinal
 
 _COLUMNS = ("window", "name", "begin", "end")
 _WINDOW = "a position, or a name"
-_REACH = (  # its three numbers, and then what is told of each of the two windows
-    *("handovers", "smaller", "larger", "smaller_name", "smaller_begin", "smaller_end"),
-    *("larger_name", "larger_begin", "larger_end"),
-)
+_MARGINS = "say of each how many minutes it shares with this one"
+
+
+def _columns_of(*ends: str) -> Tuple[str, ...]:
+    """What a row tells of each of two windows whose positions it has."""
+    return tuple(f"{end}_{column}" for end in ends for column in _COLUMNS[1:])
+
+
+def _told_of(plan: Given, *positions: int) -> list:
+    """The same of these windows."""
+    return [cell for position in positions for cell in plan.shown(position)[1:]]
+
+
+_REACH = ("handovers", "smaller", "larger", *_columns_of("smaller", "larger"))
+_MARGIN = ("first", "second", "margin", *_columns_of("first", "second"))
 
 
 @command(
@@ -49,21 +60,62 @@ def _chain(args) -> Reply:
 @command(
     "neighbours",
     "the windows that overlap one window",
-    [PLAN, word("position", _WINDOW), NAMES, ORIGIN, forms()],
-    ["poddreshi neighbours examples/plan-12.plan 2", "poddreshi neighbours examples/bolting.plan 0"],
-    "Two windows overlap when they share at least the plan's minimum handover.",
+    [PLAN, word("position", _WINDOW), option("--margins", action="store_true", help=_MARGINS), NAMES, ORIGIN, forms()],
+    [
+        "poddreshi neighbours examples/plan-12.plan 2",
+        "poddreshi neighbours examples/bolting.plan 0",
+        "poddreshi neighbours examples/plan-12.plan 2 --margins",
+        "poddreshi neighbours year.plan 9 --margins --names examples/year.txt --origin 2026-01-01",
+    ],
+    "Two windows overlap when they share at least the plan's minimum handover. With --margins there is a line for each, which ends "
+    "with what `margin` says of the two: `0  shares 6 minutes`. CSV has the minutes in a last column, and JSON with each window.",
 )
 def _neighbours(args) -> Reply:
     plan = given(args)
     at = plan.names.position(args.position)
     found = calls.neighbours(plan.file, at)
-    data = {"position": at, "neighbours": [plan.data(position) for position in found.positions]}
-    rows = [plan.shown(position) for position in found.positions]
-    return Reply(plan.lines(found.positions) or str(found), _COLUMNS, rows, data)
+    rows, data = [plan.shown(position) for position in found.positions], [plan.data(position) for position in found.positions]
+    if not args.margins:
+        return Reply(plan.lines(found.positions) or str(found), _COLUMNS, rows, {"position": at, "neighbours": data})
+    margins = [calls.margin(plan.file, at, position) for position in found.positions]
+    text = plan.lines(found.positions, [plan.margin_words(margin) for margin in margins]) or str(found)
+    rows = [(*row, margin) for row, margin in zip(rows, margins)]
+    data = [{**each, "margin": margin} for each, margin in zip(data, margins)]
+    return Reply(text, (*_COLUMNS, "margin"), rows, {"position": at, "neighbours": data})
+
+
+@command(
+    "margin",
+    "how many minutes two windows share, or lie apart",
+    [
+        *(PLAN, word("first", _WINDOW), word("second", _WINDOW), NAMES, ORIGIN),
+        forms(number="answer as the bare number of minutes, below 0 where they lie apart"),
+    ],
+    [
+        "poddreshi margin examples/plan-12.plan 0 2",
+        "poddreshi margin examples/plan-12.plan 0 4 --number",
+        "poddreshi margin examples/bolting.plan 0 2",
+        "poddreshi margin year.plan 2 7 --names examples/year.txt --origin 2026-01-01",
+    ],
+    "It is the smaller end of the two less the greater offset: `shares 6 minutes`, `touches` where one ends as the other begins, "
+    "or `2 minutes apart`. A window with itself shares its length. Two windows overlap when they share at least the plan's minimum "
+    "handover; those that share fewer minutes do not overlap. With --names or --origin a line for each of the two windows follows: "
+    "position, name, begin and end. CSV and JSON have the number of --number.",
+)
+def _margin(args) -> Reply:
+    plan = given(args)
+    first, second = plan.names.position(args.first), plan.names.position(args.second)
+    found = calls.margin(plan.file, first, second)
+    if args.form == "number":
+        return Reply(content=f"{found}\n".encode())
+    ends = (first, second) if first != second else (first,)
+    row = [first, second, found, *_told_of(plan, first, second)]
+    data = {"first": first, "second": second, "margin": found, "windows": [plan.data(first), plan.data(second)]}
+    return Reply(f"{plan.margin_words(found)}\n{plan.lines(ends)}", _MARGIN, [row], data)
 
 
 def _reach_row(plan: Given, found: calls.Reach) -> list:
-    return [*found, *plan.shown(found.smaller)[1:], *plan.shown(found.larger)[1:]]
+    return [*found, *_told_of(plan, found.smaller, found.larger)]
 
 
 def _reach_data(plan: Given, found: calls.Reach) -> dict:
@@ -155,4 +207,4 @@ def _same(args) -> Reply:
     return Reply(": ".join(row[:2]), header, [row], data, otherwise=True)
 
 
-COMMANDS = [_chain, _neighbours, _reach, _same]
+COMMANDS = [_chain, _neighbours, _margin, _reach, _same]
