@@ -136,6 +136,28 @@ static int painted(const uint8_t *bytes, size_t length) {
     return length == 0;
 }
 
+/* Minutes that two windows of plan 12 share, a window inside another, a gap, two that touch, and a window with itself, the first position
+ * before the second and behind it. What stands in the number beforehand is no margin in any of its bytes. */
+static void check_margin(void) {
+    static const struct { size_t first, second; int64_t margin; } due[] = {
+        {0, 2, 6}, {2, 0, 6}, {0, 1, 3}, {1, 0, 3}, {0, 6, -8}, {6, 0, -8}, {4, 6, 0}, {6, 5, 0}, {0, 0, 10}, {5, 5, 1}};
+    int64_t number[3];
+    size_t i;
+
+    memset(number, PAINT, sizeof number);
+    check(refused(poddreshi_margin(file, sizeof file, 7, 0, number + 1), 7, 0, 0), "margin of a first position past the last");
+    check(refused(poddreshi_margin(file, sizeof file, 0, 7, number + 1), 7, 1, 0), "margin of a second position past the last");
+    check(refused(poddreshi_margin(file, sizeof file, 7, 7, number + 1), 7, 0, 0), "margin of two positions past the last");
+    check(refused(poddreshi_margin(file, sizeof file - 1, 7, 7, number + 1), 3, 0, 0), "margin in a short file");
+    check(painted((const uint8_t *)number, sizeof number), "what a refused margin leaves");
+    for (i = 0; i < sizeof due / sizeof due[0]; i++) {
+        memset(number, PAINT, sizeof number);
+        check(is(poddreshi_margin(file, sizeof file, due[i].first, due[i].second, number + 1), PODDRESHI_MARGIN, 0, 0, 0), "margin");
+        check(number[1] == due[i].margin, "the number of a margin");
+        check(number[0] == number[2] && painted((const uint8_t *)number, sizeof number[0]), "what lies beside a margin");
+    }
+}
+
 /* Plan 12 with a window (17, 3), which goes behind the one that begins with it, and the same withdrawn again. */
 static void check_changes(void) {
     static const uint16_t joined[8][4] = {{0, 0, 7, 6}, {0, 1, 0, 5}, {0, 1, 5, 4}, {0, 1, 6, 6},
@@ -214,18 +236,23 @@ static void check_figures(void) {
     check(refused(poddreshi_validate(longest, sizeof longest), 2, 0, 0), "the limit of windows");
 }
 
-/* Two windows that share 5 minutes overlap by a minimum of 5 and not by 6; by 11 both are too short. */
+/* Two windows that share 5 minutes overlap by a minimum of 5 and not by 6, and their margin is 5 by either; by 11 both are too short. */
 static void check_minimum(void) {
     static const uint8_t by_5[] = {12, 0, 2, 0, 5, 0, 0, 0, 0, 0, 0, 0, 10, 0, 0, 0, 5, 0, 0, 0, 10, 0, 0, 0};
     uint8_t by_another[sizeof by_5];
+    int64_t margins[3] = {PAINT, PAINT, PAINT};
 
     memcpy(by_another, by_5, sizeof by_5);
     by_another[4] = 6;
     check(is(poddreshi_tags(by_5, sizeof by_5, alone, 20), PODDRESHI_BUILT, 12, 2, 1), "the minimum that is shared");
     check(is(poddreshi_tags(by_another, sizeof by_another, alone, 20), PODDRESHI_BUILT, 12, 2, 2), "a minute less than the minimum");
     check(is(poddreshi_same(by_5, sizeof by_5, by_another, sizeof by_another), PODDRESHI_DIFFERENT, 0, 0, 0), "two minimums");
+    check(is(poddreshi_margin(by_5, sizeof by_5, 0, 1, margins), PODDRESHI_MARGIN, 0, 0, 0), "margin, minimum 5");
+    check(is(poddreshi_margin(by_another, sizeof by_another, 1, 0, margins + 1), PODDRESHI_MARGIN, 0, 0, 0), "margin, minimum 6");
     by_another[4] = 11;
     check(refused(poddreshi_validate(by_another, sizeof by_another), 4, 0, 0), "a window shorter than the minimum");
+    check(refused(poddreshi_margin(by_another, sizeof by_another, 2, 2, margins + 2), 4, 0, 0), "margin, minimum 11");
+    check(margins[0] == 5 && margins[1] == 5 && margins[2] == PAINT, "margins by three minimums");
     by_another[4] = 0;
     check(refused(poddreshi_validate(by_another, sizeof by_another), 14, 0, 0), "no minimum");
     check(refused(poddreshi_same(by_5, sizeof by_5, by_another, sizeof by_another), 14, 1, 0), "no minimum in the second file");
@@ -244,6 +271,7 @@ int main(void) {
     check_plan();
     check_build();
     check_page();
+    check_margin();
     check_changes();
     check_short();
     check_figures();

@@ -22,10 +22,10 @@ static void build(void) {
 }
 static void tag_file(void) { poddreshi_tags(plan, sizeof plan, tags, sizeof tags); }
 static void short_tag_file(void) { poddreshi_short_tags(plan, sizeof plan, short_tags, sizeof short_tags); }
-/* A change that is refused would use less, and say nothing of the stack. */
+/* A call that is refused would use less, and say nothing of the stack. */
 static void is_done(uint64_t answer) {
     if (!poddreshi_is_refused(answer)) return;
-    printf("stack: a change is refused by %u\n", poddreshi_refusal_number(answer));
+    printf("stack: a call is refused by %u\n", poddreshi_refusal_number(answer));
     exit(2);
 }
 static void add(void) {
@@ -37,6 +37,10 @@ static void withdraw(void) {
 static void reach(void) { poddreshi_reach(plan, sizeof plan, 5); }
 static void chain(void) { poddreshi_chain(plan, sizeof plan, 0, WINDOWS - 1, tables[0], WINDOWS); }
 static void neighbours(void) { poddreshi_neighbours(plan, sizeof plan, 5, tables[0], WINDOWS); }
+static void margin(void) {
+    int64_t number;
+    is_done(poddreshi_margin(plan, sizeof plan, 0, WINDOWS - 1, &number));
+}
 static void same(void) { poddreshi_same(plan, sizeof plan, plan, sizeof plan); }
 static void pair(void) { poddreshi_pair(tags, 10, tags + 10, 10); }
 static void pair_at(void) { poddreshi_pair_at(tags, sizeof tags, 3, 700); }
@@ -51,7 +55,8 @@ static void short_pair_at(void) { poddreshi_short_pair_at(short_tags, sizeof sho
 static void write_short(void) { poddreshi_short_write(12, 0, 2, 2, short_tags, sizeof short_tags); }
 
 /* The calls on tags stand behind those that write them, and those that write over a tag behind the calls on it. Reach and chain are
- * held to less than the header says: to the one table of parents, 4,096 bytes, that each of them fills. */
+ * held to less than the header says: to the one table of parents, 4,096 bytes, that each of them fills; and margin, which fills none, to
+ * less than any table. */
 static const struct { const char *name; void (*call)(void); long most; } calls[] = {
     {"nothing", nothing, 0},           {"validate", validate, 17000},         {"build", build, 17000},
     {"tags", tag_file, 38000},         {"short_tags", short_tag_file, 38000}, {"reach", reach, 5000},
@@ -59,7 +64,7 @@ static const struct { const char *name; void (*call)(void); long most; } calls[]
     {"pair", pair, 100},               {"pair_at", pair_at, 100},             {"page", page, 100},
     {"lookup", lookup, 100},           {"short_pair_at", short_pair_at, 100}, {"short_pair", short_pair, 100},
     {"write", write_tag, 100},         {"short_write", write_short, 100},     {"add", add, 38000},
-    {"withdraw", withdraw, 38000},
+    {"withdraw", withdraw, 38000},     {"margin", margin, 1000},
 };
 
 static void *run(void *call) {

@@ -26,6 +26,7 @@ pub enum Answer {
     Found,
     Written,
     Filled,
+    Margin,
 }
 
 /// A record of a page: two positions, and the answer that stands beside them.

@@ -144,6 +144,12 @@ impl Comparison {
         self.both(library, out, expected::neighbours(file, at, room))
     }
 
+    pub fn margin(&mut self, file: &[u8], first: usize, second: usize) -> Both<Lent<i64>, Vec<i64>> {
+        let mut out = calls::number(&mut self.random);
+        let library = calls::margin(file, first, second, &mut out);
+        self.both(library, out, expected::margin(file, first, second))
+    }
+
     pub fn same(&mut self, first: &[u8], second: &[u8]) -> Both<(), ()> {
         self.both(calls::same(first, second), (), expected::same(first, second))
     }

@@ -28,6 +28,7 @@ fn unpack(answer: u64) -> Answer {
         (10, (0, 0, 0)) => Answer::Found,
         (11, (0, 0, 0)) => Answer::Written,
         (12, (0, 0, 0)) => Answer::Filled,
+        (13, (0, 0, 0)) => Answer::Margin,
         _ => panic!("no call has the answer {answer:#018x}"),
     }
 }
@@ -71,6 +72,11 @@ pub fn words(room: usize, random: &mut Random) -> Lent<u16> {
 
 pub fn bytes(room: usize, random: &mut Random) -> Lent<u8> {
     Lent::new(room, &mut || random.next() as u8)
+}
+
+/// The place for one margin.
+pub fn number(random: &mut Random) -> Lent<i64> {
+    Lent::new(1, &mut || random.next() as i64)
 }
 
 pub fn validate(file: &[u8]) -> Answer {
@@ -158,6 +164,10 @@ pub fn chain(file: &[u8], first: usize, second: usize, out: &mut Lent<u16>) -> A
 
 pub fn neighbours(file: &[u8], at: usize, out: &mut Lent<u16>) -> Answer {
     unpack(unsafe { poddreshi_neighbours(file.as_ptr(), file.len(), at, out.pointer(), out.room) })
+}
+
+pub fn margin(file: &[u8], first: usize, second: usize, out: &mut Lent<i64>) -> Answer {
+    unpack(unsafe { poddreshi_margin(file.as_ptr(), file.len(), first, second, out.pointer()) })
 }
 
 pub fn same(first: &[u8], second: &[u8]) -> Answer {

@@ -7,7 +7,7 @@ use crate::forms::Form;
 use crate::oracle::{self, Change, Changed, Plan, What};
 use crate::random::Random;
 use crate::refusals;
-use crate::shapes::{file_of, realised, windows_in, LATEST};
+use crate::shapes::{file_of, realised, window_in, windows_in, LATEST};
 use std::collections::BTreeSet;
 
 /// The rooms that a change of n windows fills to the last byte.
@@ -43,12 +43,6 @@ fn any_window(plan: &Plan, random: &mut Random) -> (u32, u32) {
 /// The number of a file's plan, as it stands there.
 fn number_in(file: &[u8]) -> u16 {
     u16::from_le_bytes([file[0], file[1]])
-}
-
-/// A window of a file, as it stands there.
-fn window_in(file: &[u8], at: usize) -> (u32, u32) {
-    let number = |from: usize| u32::from_le_bytes(file[from..from + 4].try_into().unwrap());
-    (number(8 + 8 * at), number(12 + 8 * at))
 }
 
 /// Behind how many windows of a file one goes that is added.
@@ -124,10 +118,8 @@ impl Comparison {
             What::Add(offset, _) => offset,
         };
         let place = place_in(file, offset);
-        let mut near = calls::words(n, &mut self.random);
-        let Answer::Neighbours(count) = calls::neighbours(changed, place, &mut near) else { panic!("no window at {place}") };
-        self.calls += 1;
-        let overlapping = near.entries()[..count as usize].iter().map(|&v| v as usize).filter(|&v| v < place);
+        let near = self.library_neighbours(changed, place);
+        let overlapping = near.iter().map(|&v| v as usize).filter(|&v| v < place);
         let mut others = vec![false; n];
         overlapping.chain(place..n).for_each(|v| others[component(v)] = true);
         (0..place).filter(|&v| !others[component(v)]).collect()

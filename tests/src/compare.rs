@@ -5,6 +5,7 @@ use crate::calls::{self, Tables};
 use crate::forms::{Form, FORMS};
 use crate::oracle::{self, Columns, Plan, Tree};
 use crate::random::Random;
+use crate::shapes::windows_in;
 use std::ops::Range;
 
 /// How much of a plan is gone through.
@@ -86,12 +87,16 @@ impl Comparison {
         assert_eq!(calls::chain(file, 0, at, &mut out), refused, "chain");
         assert_eq!(calls::neighbours(file, at, &mut out), refused, "neighbours");
         out.holds("refused", &[]);
+        let mut number = calls::number(&mut self.random);
+        assert_eq!(calls::margin(file, at, 0, &mut number), refused, "margin");
+        assert_eq!(calls::margin(file, 0, at, &mut number), refused, "margin");
+        number.holds("refused margin", &[]);
         assert_eq!(calls::same(file, file), refused, "same");
         let good = [9, 0, 1, 0, 1, 0, 0, 0, 3, 0, 0, 0, 1, 0, 0, 0];
         let second = Answer::Refused(Refusal { input: 1, ..no });
         assert_eq!(calls::same(&good, file), second, "same, the second file");
         assert_eq!(calls::same(file, &good), refused, "same, the first file");
-        self.calls += 11;
+        self.calls += 13;
         self.no_change(file, no);
     }
 
@@ -111,6 +116,7 @@ impl Comparison {
         let distances = tree.all_distances();
         let some = position_sample(n, depth, &mut self.random);
         self.from_plan(file, &tree, &some, &distances);
+        self.margins(file, plan, &some);
         self.reaches(file, &tree, &some, &distances);
         self.named_positions(file, n);
         self.from_tags(Form::Long, file, &tree, &some, &distances);
@@ -275,20 +281,33 @@ impl Comparison {
         }
     }
 
+    /// What the library says, with nothing from the oracle.
+    pub fn library_neighbours(&mut self, file: &[u8], at: usize) -> Vec<u16> {
+        let mut near = calls::words(windows_in(file), &mut self.random);
+        let Answer::Neighbours(count) = calls::neighbours(file, at, &mut near) else { panic!("no window at {at}") };
+        self.calls += 1;
+        near.entries()[..count as usize].to_vec()
+    }
+
     /// Positions that the plan does not have, as the first and as the second.
     fn named_positions(&mut self, file: &[u8], n: usize) {
         let [first, second] = [0, 1].map(|input| Answer::Refused(refusal(7, input, 0)));
         for past in positions_past(n, &mut self.random) {
             let mut out = calls::words(self.random.below(3) as usize, &mut self.random);
+            let mut number = calls::number(&mut self.random);
             assert_eq!(calls::reach(file, past), first, "reach of {past}");
             assert_eq!(calls::neighbours(file, past, &mut out), first, "neighbours of {past}");
             assert_eq!(calls::chain(file, past, past, &mut out), first, "chain of {past} twice");
             assert_eq!(calls::chain(file, past, 0, &mut out), first, "chain of {past} and 0");
+            assert_eq!(calls::margin(file, past, past, &mut number), first, "margin of {past} twice");
+            assert_eq!(calls::margin(file, past, 0, &mut number), first, "margin of {past} and 0");
             if n > 0 {
                 assert_eq!(calls::chain(file, n - 1, past, &mut out), second, "chain of the last and {past}");
+                assert_eq!(calls::margin(file, n - 1, past, &mut number), second, "margin of the last and {past}");
             }
             out.holds("refused position", &[]);
-            self.calls += 5;
+            number.holds("margin of a refused position", &[]);
+            self.calls += 8;
         }
     }
 

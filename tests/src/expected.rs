@@ -2,7 +2,7 @@
 //! With an answer goes what is to stand at the front of each lent table; a refusal writes nothing.
 use crate::answers::{refusal, Answer, Record, Refusal};
 use crate::forms::Form;
-use crate::oracle::{self, Change, Changed, Columns, Tree};
+use crate::oracle::{self, Change, Changed, Columns, Margins, Tree};
 
 pub type Owed<W> = Result<(Answer, W), Refusal>;
 
@@ -91,6 +91,15 @@ pub fn neighbours(file: &[u8], at: usize, room: usize) -> Owed<Vec<u16>> {
     let members = tree.neighbours(at);
     has_room(room, members.len())?;
     Ok((Answer::Neighbours(members.len() as u16), members))
+}
+
+/// What is written is the one number.
+pub fn margin(file: &[u8], first: usize, second: usize) -> Owed<Vec<i64>> {
+    let plan = oracle::read_plan(file, 0)?;
+    let n = plan.windows.len();
+    is_position(first, n, 0)?;
+    is_position(second, n, 1)?;
+    Ok((Answer::Margin, vec![Margins::of(&plan).between(first, second)]))
 }
 
 pub fn same(first: &[u8], second: &[u8]) -> Owed<()> {

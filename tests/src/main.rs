@@ -13,6 +13,7 @@ mod compare;
 mod expected;
 mod forms;
 mod listing;
+mod margins;
 mod minimums;
 mod oracle;
 mod pages;
@@ -235,6 +236,17 @@ fn rising_minimums(run: &mut Run) {
         }
     }
     run.report("rising minimums");
+}
+
+/// Every way in which two windows can lie, and three, by every minimum that they can have; windows at every edge.
+fn every_margin(run: &mut Run) {
+    for n in 2..=run.times(3, 4) as usize {
+        for windows in in_few_minutes(n) {
+            run.case("margins in few minutes", &mut |comparison| minimums::rising_minimum(comparison, &windows));
+        }
+    }
+    run.case("margins at every edge", &mut margins::edges);
+    run.report("margins");
 }
 
 /// Small even plans of each shape, all pairs, and the like with one end that is equal or falls.
@@ -508,6 +520,7 @@ fn main() {
     every_lowered_end(&mut run);
     edges_of_n(&mut run);
     rising_minimums(&mut run);
+    every_margin(&mut run);
     small_plans(&mut run);
     small_even_plans(&mut run);
     large_plans(&mut run);

@@ -1,6 +1,7 @@
-//! What the papers say, by brute force: windows as sets of minutes, overlap as a count of the minutes that both sets have, least
-//! numbers of handovers by breadth-first search, reach as the greatest of them all, post-order by recursion, a changed plan as one whose
-//! windows are sorted anew. Nothing here is taken from the library: where it has a formula, this has a search.
+//! What the papers say, by brute force: windows as sets of minutes, overlap as a count of the minutes that both sets have, a margin as
+//! that count or as one of the minutes between them, least numbers of handovers by breadth-first search, reach as the greatest of them
+//! all, post-order by recursion, a changed plan as one whose windows are sorted anew. Nothing here is taken from the library: where it
+//! has a formula, this has a search or a count.
 use crate::answers::{refusal, Answer, Refusal};
 use crate::forms::Form;
 use crate::shapes::file_of;
@@ -161,6 +162,8 @@ const MINUTE_BY_MINUTE: u64 = 4096;
 
 /// The minutes of a plan up to its latest end, laid out in runs; in a plan that ends early each run is one minute.
 struct Minutes {
+    /// The first minute of each run.
+    starts: Vec<u64>,
     /// How many minutes each run has.
     lengths: Vec<u64>,
     /// The same for each 64 runs, which stand in one word of a set.
@@ -181,23 +184,20 @@ impl Minutes {
             bounds
         };
         let lengths: Vec<u64> = bounds.windows(2).map(|two| two[1] - two[0]).collect();
-        let covered = |&(offset, length): &(u64, u64)| {
-            let mut set = Set::empty(lengths.len());
-            for (run, &minute) in bounds[..lengths.len()].iter().enumerate() {
-                if offset <= minute && minute < offset + length {
-                    set.add(run);
-                }
-            }
-            set
-        };
-        let covered = plan.windows.iter().map(covered).collect();
+        let starts = bounds[..lengths.len()].to_vec();
+        let covered = runs_where(plan, &starts, |(offset, length), minute| offset <= minute && minute < offset + length);
         let together = lengths.chunks(64).map(|runs| runs.iter().sum()).collect();
-        Minutes { lengths, together, covered }
+        Minutes { starts, lengths, together, covered }
     }
 
     /// How many minutes both windows cover.
     fn shared(&self, u: usize, v: usize) -> u64 {
-        let words = self.covered[u].0.iter().zip(&self.covered[v].0).enumerate();
+        self.in_both(&self.covered[u], &self.covered[v])
+    }
+
+    /// How many minutes the runs have that stand in both sets.
+    fn in_both(&self, a: &Set, b: &Set) -> u64 {
+        let words = a.0.iter().zip(&b.0).enumerate();
         words.map(|(word, (a, b))| self.count(word, a & b)).sum()
     }
 
@@ -207,6 +207,49 @@ impl Minutes {
             0 => 0,
             u64::MAX => self.together[word],
             some => ones(some).map(|run| self.lengths[64 * word + run]).sum(),
+        }
+    }
+}
+
+/// By position, the runs whose minutes stand to the window as is asked.
+fn runs_where(plan: &Plan, starts: &[u64], stands: impl Fn((u64, u64), u64) -> bool) -> Vec<Set> {
+    let of_window = |&window: &(u64, u64)| {
+        let mut set = Set::empty(starts.len());
+        for (run, &minute) in starts.iter().enumerate() {
+            if stands(window, minute) {
+                set.add(run);
+            }
+        }
+        set
+    };
+    plan.windows.iter().map(of_window).collect()
+}
+
+/// The minutes of a plan, and which of them lie on either side of a window.
+pub struct Margins {
+    minutes: Minutes,
+    /// By position, the runs that lie before the window.
+    before: Vec<Set>,
+    /// The same for those behind it.
+    behind: Vec<Set>,
+}
+
+impl Margins {
+    pub fn of(plan: &Plan) -> Margins {
+        let minutes = Minutes::of(plan);
+        let before = runs_where(plan, &minutes.starts, |(offset, _), minute| minute < offset);
+        let behind = runs_where(plan, &minutes.starts, |(offset, length), minute| offset + length <= minute);
+        Margins { minutes, before, behind }
+    }
+
+    /// Paper 02, Q-7: "positive minutes shared, 0 where they touch, and a negative number for the gap. A window with itself gives its
+    /// length." A gap is counted by the minutes behind the one and before the other, whichever comes first.
+    pub fn between(&self, u: usize, v: usize) -> i64 {
+        let gap = |u: usize, v: usize| self.minutes.in_both(&self.behind[u], &self.before[v]);
+        match (self.minutes.shared(u, v), gap(u, v) + gap(v, u)) {
+            (shared, 0) => shared as i64,
+            (0, gap) => -(gap as i64),
+            (shared, gap) => panic!("{u} and {v} share {shared} minutes and have {gap} between them"),
         }
     }
 }

@@ -2,14 +2,14 @@
 //! lent byte alike. The numbers stand as the paper prints them and none is computed; the few that it does not print follow from
 //! its words: a chain of two windows, the components of a plan of one window, plan 12 twice; and from those of paper 02: the short
 //! tags of plan 12 made even, what becomes of two and three windows as the minimum rises, pages of plan 12, and, found
-//! by hand, reaches of few windows and plans that are changed.
+//! by hand, reaches of few windows, plans that are changed and margins of plan 12 and of few windows.
 use crate::answers::{refusal, Answer, Refusal};
 use crate::compare::Comparison;
 use crate::forms::Form;
 use crate::oracle::{tag_bytes, Change, Changed, Columns, What};
 use crate::pages;
 use crate::refusals::every_call_refuses;
-use crate::shapes::{file_of, old_file_of, windows_in};
+use crate::shapes::{file_of, minimum_in, old_file_of, windows_in};
 use std::ops::Range;
 use Says::*;
 
@@ -82,6 +82,10 @@ enum Says {
     Becomes(Change, &'static [(u32, u32)], &'static str),
     /// A change is refused by this question.
     Stays(Change, u16),
+    /// Of each two positions, the margin.
+    Margins(&'static [(usize, usize, i64)]),
+    /// Of two positions, what refuses their margin.
+    NoMargin(usize, usize, Answer),
 }
 
 pub struct Case {
@@ -103,7 +107,8 @@ pub fn cases() -> Vec<Case> {
     let paper_01 = [worked(), edges(), long_inputs(), traps()];
     let paper_02 = [short_tags(), minimums(), rising_minimums(), minimums_refused(), pages_of_pairs(), reaches()];
     let changes = [added(), withdrawn(), changes_refused()];
-    paper_01.into_iter().chain(paper_02).chain(changes).flatten().collect()
+    let margins = [margins(), margins_by_minimums(), margins_refused()];
+    paper_01.into_iter().chain(paper_02).chain(changes).chain(margins).flatten().collect()
 }
 
 fn worked() -> Vec<Case> {
@@ -532,6 +537,96 @@ fn changes_refused() -> Vec<Case> {
     ]
 }
 
+/// Of each two windows of plan 12, and of each with itself.
+const MARGINS: [(usize, usize, i64); 28] = [
+    (0, 0, 10),
+    (0, 1, 3),
+    (0, 2, 6),
+    (0, 3, 1),
+    (0, 4, -2),
+    (0, 5, -7),
+    (0, 6, -8),
+    (1, 1, 3),
+    (1, 2, 1),
+    (1, 3, -4),
+    (1, 4, -7),
+    (1, 5, -12),
+    (1, 6, -13),
+    (2, 2, 12),
+    (2, 3, 2),
+    (2, 4, 4),
+    (2, 5, -1),
+    (2, 6, -2),
+    (3, 3, 2),
+    (3, 4, -1),
+    (3, 5, -6),
+    (3, 6, -7),
+    (4, 4, 6),
+    (4, 5, 1),
+    (4, 6, 0),
+    (5, 5, 1),
+    (5, 6, 0),
+    (6, 6, 4),
+];
+
+/// Paper 02, Q-7: "positive minutes shared, 0 where they touch, and a negative number for the gap. A window with itself gives its length."
+fn margins() -> Vec<Case> {
+    let two = |name, windows: &[(u32, u32)], due| case(name, windows, Margins(due));
+    let in_line: Vec<(u32, u32)> = (0..2048).map(|v| (2 * v, 3)).collect();
+    vec![
+        case("plan 12: margins", &PLAN_12, Margins(&MARGINS)),
+        two("(0, 10) (10, 5) touch: margin 0", &[(0, 10), (10, 5)], &[(0, 1, 0), (0, 0, 10), (1, 1, 5)]),
+        two("(0, 11) (10, 5): margin 1", &[(0, 11), (10, 5)], &[(0, 1, 1)]),
+        two("(0, 9) (10, 5) have a minute between them: margin -1", &[(0, 9), (10, 5)], &[(0, 1, -1)]),
+        two("two windows (5, 5): margin 5", &[(5, 5), (5, 5)], &[(0, 1, 5), (0, 0, 5), (1, 1, 5)]),
+        two("two that begin together: the length of the shorter", &[(5, 9), (5, 2)], &[(0, 1, 2)]),
+        two("two that end together: the length of the shorter", &[(0, 10), (4, 6)], &[(0, 1, 6)]),
+        two("a window inside another: its length", &[(0, 20), (7, 5)], &[(0, 1, 5)]),
+        two("windows of a minute that touch: margin 0", &[(3, 1), (4, 1)], &[(0, 1, 0)]),
+        two("the longest gap", &[(0, 1), (9_999_999, 1)], &[(0, 1, -9_999_998), (0, 0, 1), (1, 1, 1)]),
+        two("the longest window", &[(0, 10_000_000)], &[(0, 0, 10_000_000)]),
+        two("the longest window twice", &[(0, 10_000_000), (0, 10_000_000)], &[(0, 1, 10_000_000)]),
+        two("the longest window and its last minute", &[(0, 10_000_000), (9_999_999, 1)], &[(0, 1, 1)]),
+        two("a gap of 65,536 minutes", &[(0, 1), (65_537, 1)], &[(0, 1, -65_536)]),
+        two("65,536 minutes in common", &[(0, 65_537), (1, 65_537)], &[(0, 1, 65_536), (0, 0, 65_537)]),
+        two("2,048 windows in line: margins with the last", &in_line, &[(0, 2047, -4_091), (2046, 2047, 1), (2047, 2047, 3)]),
+    ]
+}
+
+/// "Two different windows overlap just when the margin reaches the minimum."
+fn margins_by_minimums() -> Vec<Case> {
+    vec![
+        by(5, "two windows share 5 minutes, minimum 5: margin 5", &TWO, Margins(&[(0, 1, 5), (0, 0, 10), (1, 1, 10)])),
+        by(5, "two windows share 5 minutes, minimum 5: they overlap", &TWO, Neighbours(0, &[1])),
+        by(6, "two windows share 5 minutes, minimum 6: margin 5", &TWO, Margins(&[(0, 1, 5), (0, 0, 10), (1, 1, 10)])),
+        by(6, "two windows share 5 minutes, minimum 6: no overlap", &TWO, Neighbours(0, &[])),
+        by(5, "(0, 10) (10, 5), minimum 5, touch: margin 0", &[(0, 10), (10, 5)], Margins(&[(0, 1, 0)])),
+        by(5, "(0, 11) (10, 5), minimum 5, share a minute: margin 1", &[(0, 11), (10, 5)], Margins(&[(0, 1, 1)])),
+        by(5, "(0, 9) (10, 5), minimum 5: margin -1", &[(0, 9), (10, 5)], Margins(&[(0, 1, -1)])),
+        by(1, "three windows, minimum 1: margins", &THREE, Margins(&[(0, 1, 6), (1, 2, 5), (0, 2, 1)])),
+        by(10, "three windows, minimum 10: the same margins", &THREE, Margins(&[(0, 1, 6), (1, 2, 5), (0, 2, 1)])),
+        by(86_400, "86,400 minutes in common, minimum 86,400", &[(0, 90_000), (3_600, 90_000)], Margins(&[(0, 1, 86_400)])),
+        by(86_400, "86,399 minutes in common, minimum 86,400", &[(0, 90_000), (3_601, 90_000)], Margins(&[(0, 1, 86_399)])),
+    ]
+}
+
+/// Question 7 of a margin's two positions, "first and then second; where both are at fault the input is 0".
+fn margins_refused() -> Vec<Case> {
+    let plan_12 = |name, first, second, due| case(name, &PLAN_12, NoMargin(first, second, due));
+    vec![
+        plan_12("margin of 7 and 0 in plan 12", 7, 0, PAST_FIRST),
+        plan_12("margin of 0 and 7 in plan 12", 0, 7, PAST_SECOND),
+        plan_12("margin of 7 and 7 in plan 12", 7, 7, PAST_FIRST),
+        plan_12("margin of 7 and 8 in plan 12", 7, 8, PAST_FIRST),
+        plan_12("margin of 65,536 and 0 in plan 12", 65_536, 0, PAST_FIRST),
+        plan_12("margin of 6 and 65,542 in plan 12", 6, 65_542, PAST_SECOND),
+        plan_12("margin of 4,294,967,296 and 0 in plan 12", 4_294_967_296, 0, PAST_FIRST),
+        plan_12("margin of 0 and the greatest position", 0, usize::MAX, PAST_SECOND),
+        plan_12("margin of the greatest position twice", usize::MAX, usize::MAX, PAST_FIRST),
+        case("margin of 0 twice in the plan with no window", &[], NoMargin(0, 0, PAST_FIRST)),
+    ]
+}
+
 impl Case {
     /// How the listing program's text begins, as far as the case says it.
     pub fn printed(&self) -> String {
@@ -565,6 +660,8 @@ impl Case {
             Page(due) => page(comparison, file, due),
             Becomes(ref change, windows, listing) => becomes(comparison, file, change, windows, listing),
             Stays(ref change, number) => comparison.refuses_change(file, change, number),
+            Margins(due) => due.iter().for_each(|&(u, v, number)| margin(comparison, file, (u, v), number)),
+            NoMargin(u, v, refused) => comparison.margin(file, u, v).are(format_args!("margin of {u} and {v}"), refused, &vec![]),
         }
         assert_eq!(file, &self.file, "a file that was only to be read");
     }
@@ -703,6 +800,17 @@ fn reach(comparison: &mut Comparison, file: &[u8], positions: Range<usize>, hand
     }
 }
 
+/// In both orders; and that two different windows overlap where it reaches the minimum, and nowhere else.
+fn margin(comparison: &mut Comparison, file: &[u8], (u, v): (usize, usize), number: i64) {
+    for (first, second) in [(u, v), (v, u)] {
+        comparison.margin(file, first, second).are(format_args!("margin of {first} and {second}"), Answer::Margin, &vec![number]);
+    }
+    let near = comparison.neighbours(file, u, windows_in(file));
+    near.agree(format_args!("neighbours of {u}"));
+    let reaches = u != v && number >= minimum_in(file) as i64;
+    assert_eq!(near.written.contains(&(v as u16)), reaches, "overlap of {u} and {v}, margin {number}");
+}
+
 /// The page, and the same with a byte more in the tag file, or a byte less than a tag more, which fills nothing.
 fn page(comparison: &mut Comparison, file: &[u8], due: &[(usize, usize, Answer)]) {
     let tags = columns(comparison, file).tags;
@@ -716,8 +824,7 @@ fn page(comparison: &mut Comparison, file: &[u8], due: &[(usize, usize, Answer)]
 
 /// The changed plan has these windows by the minimum of before, and is as any plan with this listing.
 fn becomes(comparison: &mut Comparison, file: &[u8], change: &Change, windows: &[(u32, u32)], listing: &str) {
-    let minimum = u32::from_le_bytes(file[4..8].try_into().unwrap());
-    let paper = file_of(change.plan, minimum, windows);
+    let paper = file_of(change.plan, minimum_in(file), windows);
     let changed = Changed { tags: lists(comparison, &paper, listing), file: paper };
     let components = listing.lines().next().unwrap().split(' ').nth(2).unwrap().parse().unwrap();
     let answer = Answer::Built { plan: change.plan, windows: windows.len() as u16, components };

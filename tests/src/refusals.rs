@@ -135,6 +135,9 @@ pub fn every_call_refuses(comparison: &mut Comparison, file: &[u8], number: u16,
         comparison.chain(file, at, 0, room).are(format_args!("chain"), first, &vec![]);
         comparison.chain(file, 0, at, room).are(format_args!("chain"), first, &vec![]);
     }
+    for (u, v) in [(0, 0), (usize::MAX, 0), (0, usize::MAX), (usize::MAX, usize::MAX)] {
+        comparison.margin(file, u, v).are(format_args!("margin of {u} and {v}"), first, &vec![]);
+    }
     // By the number of plan 12, which question 16 would refuse, and by another.
     for (plan, room, at) in [(12, 0, 0), (13, 0, usize::MAX), (13, 2053, 0)] {
         for what in [What::Add(0, 0), What::Add(0, 86_400), What::Withdraw(at)] {
@@ -252,12 +255,15 @@ pub fn positions(n: usize) -> Vec<usize> {
     (0..n).chain([n, n + 1, 2047, 2048, usize::MAX / 10, usize::MAX / 10 + 1, usize::MAX]).chain(cut).collect()
 }
 
-/// Each position and each two, with every room from none to more than any answer needs.
+/// Each position and each two, where a call takes a table with every room from none to more than any answer needs.
 pub fn positions_and_rooms(comparison: &mut Comparison) {
     for file in sound_plans() {
         let n = windows_in(&file);
         for first in positions(n) {
             comparison.reach(&file, first).agree(format_args!("reach of {first}"));
+            for second in positions(n) {
+                comparison.margin(&file, first, second).agree(format_args!("margin of {first} and {second}"));
+            }
             for room in 0..=n + 1 {
                 comparison.neighbours(&file, first, room).agree(format_args!("neighbours of {first}, room for {room}"));
                 for second in positions(n) {

@@ -20,6 +20,21 @@ pub fn windows_in(file: &[u8]) -> usize {
     (file.len() - 8) / 8
 }
 
+/// The number of four bytes from a byte of a file on.
+fn number_at(file: &[u8], from: usize) -> u32 {
+    u32::from_le_bytes(file[from..from + 4].try_into().unwrap())
+}
+
+/// The minimum of a file's plan, as it stands there.
+pub fn minimum_in(file: &[u8]) -> u32 {
+    number_at(file, 4)
+}
+
+/// A window of a file, as it stands there.
+pub fn window_in(file: &[u8], at: usize) -> (u32, u32) {
+    (number_at(file, 8 + 8 * at), number_at(file, 12 + 8 * at))
+}
+
 /// A file as paper 01 had it, with no minimum.
 pub fn old_file_of(plan: u16, windows: &[(u32, u32)]) -> Vec<u8> {
     let mut file = file_of(plan, 1, windows);
