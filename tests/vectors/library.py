@@ -4,7 +4,7 @@ from array import array
 
 from reader import Refused
 
-REFUSED, NO_CHAIN, SAME, HANDOVERS, FILLED = 0, 5, 7, 9, 12
+REFUSED, NO_CHAIN, SAME, HANDOVERS, FILLED, MARGIN = 0, 5, 7, 9, 12, 13
 WORD, TABLE = ctypes.c_size_t, {list: ctypes.c_uint16, bytearray: ctypes.c_uint8}
 
 
@@ -105,6 +105,13 @@ class Library:
 
     def reach(self, file, at):
         return tuple(self.ask("reach", file, WORD(at))[1])
+
+    def margin(self, file, first, second, place):
+        margin = ctypes.c_int64(place[0])
+        try:
+            assert self.ask("margin", file, WORD(first), WORD(second), ctypes.byref(margin)) == (MARGIN, [0, 0, 0])
+        finally:
+            place[0] = margin.value
 
     def same(self, first, second):
         return self.ask("same", first, second)[0] == SAME

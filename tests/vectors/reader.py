@@ -2,7 +2,7 @@
 
 Each question, each number of the tree and each half of the rule is a method of its own, so that a wrong reader
 (wrong_readers.py) can get one of them wrong. Tables and tag files that a call writes to are lists and bytearrays that the
-caller lends. A refusal is raised; "no chain" is None.
+caller lends, and the place for a margin is a list of one. A refusal is raised; "no chain" is None.
 """
 from collections import namedtuple
 
@@ -362,6 +362,23 @@ class Reader:
         beside = self.beside(plan)
         return self.greatest(self.counts(beside, self.members(beside, at)))
 
+    # Margins, by minutes that are counted.
+
+    def covers(self, plan, v, minute):
+        return plan.offsets[v] <= minute < plan.ends[v]
+
+    def runs(self, plan, u, v):
+        """The minutes from the first that one of two windows covers to the last, in runs that each of them covers whole or not at
+        all: how long a run is, and how many of the two cover it."""
+        cuts = sorted({plan.offsets[u], plan.ends[u], plan.offsets[v], plan.ends[v]})
+        return [(stop - start, self.covers(plan, u, start) + self.covers(plan, v, start)) for start, stop in zip(cuts, cuts[1:])]
+
+    def margin_of(self, plan, u, v):
+        """The minutes that both cover, or, below 0, those between them, which neither does. There are not both."""
+        runs = self.runs(plan, u, v)
+        shared, between = (sum(minutes for minutes, covering in runs if covering == count) for count in (2, 0))
+        return shared - between
+
     # A change.
 
     def ask_addition(self, plan, number, offset, length):
@@ -503,6 +520,11 @@ class Reader:
         plan = self.read_plan(file)
         self.ask(self.question_7(at, len(plan.offsets)), 7)
         return self.farthest(plan, at)
+
+    def margin(self, file, first, second, place):
+        plan = self.read_plan(file)
+        self.ask_positions(first, second, len(plan.offsets))
+        self.fill(place, [self.margin_of(plan, first, second)])
 
     def same(self, first, second):
         first, second = self.read_plan(first, 0), self.read_plan(second, 1)

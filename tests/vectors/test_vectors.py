@@ -17,7 +17,7 @@ from library import Library
 from reader import Reader, Refused
 from vectors import CALLS, DOCS, FOLDER, Malformed, all_vectors, bytes_of_rows, parse_file, parse_vector, passes, said
 from vectors import without_comment, words_of
-from wrong_change_readers import WRONG
+from wrong_margin_readers import WRONG
 
 VECTORS = sorted(all_vectors(), key=lambda one: 10**9 if one.where.startswith("long.txt") else len(one.text))  # The quick first.
 DOCUMENT = (DOCS / "FORMAT.md").read_text(encoding="utf-8")
@@ -33,6 +33,9 @@ SLIPS = (
     "pear 00 00 : no_chain",
     "reach 00 01 : reach 1 0 1",
     "reach 00 1 : reach 1",
+    "margin 00 0 0 : margin -0",
+    "margin 00 0 0 : margin +1",
+    "margin 00 0 -1 : margin 1",
     "withdraw 00 13 0 8 : refused 1 0 0",
     "add 00 13 0 1 16 10 : built 13 1 1 00",
     "chain 00 0 0 1 : chain 1,,2",
@@ -64,9 +67,14 @@ def blocks():
     return [line for block in DOCUMENT.split("```")[1::2] for line in block.strip("\n").split("\n")]
 
 
+def answered(call):
+    """What the vectors of a call have behind its own name as the answer, by the arguments."""
+    return {vector.arguments: vector.answer[1] for vector in VECTORS if vector.call == call == vector.answer[0]}
+
+
 # The plan files and tag files that the fenced blocks show, in order, and how many lines each of them has.
 SHOWN = {
-    "plan 12": 8, "two windows": 3, "tags of plan 12": 7, "plan 14": 9, "short tags of plan 14": 8,
+    "plan 12": 8, "two windows": 3, "plan 16": 6, "tags of plan 12": 7, "plan 14": 9, "short tags of plan 14": 8,
     "plan 13": 9, "tags of plan 13": 8, "plan 15": 7, "tags of plan 15": 6,
 }
 
@@ -171,6 +179,24 @@ class Document(unittest.TestCase):
         self.assertIn(("chain", (minimums[5], 0, 1, 2), ("chain", [1, 0])), stored)
         self.assertIn(("chain", (minimums[6], 0, 1, 2), ("no_chain",)), stored)
         self.assertIn(("validate", (minimums[11],), ("refused", 4, 0, 0)), stored)
+
+    def test_the_margins_that_it_works_out_are_those_of_the_vectors(self):
+        stored = answered("margin")
+        for file in octets("plan 12", "plan 16"):
+            positions = range(struct.unpack_from("<H", file, 2)[0])
+            shown = [[int(cell.replace("−", "-")) for cell in row] for row in table("margin", *map(str, positions))]
+            self.assertEqual(shown, [[u, *(stored[file, u, v] for v in positions)] for u in positions])
+
+    def test_windows_overlap_just_when_their_margin_reaches_the_minimum(self):
+        """In the vectors of margin and of neighbours that have a file and a position in common."""
+        beside = {arguments[:2]: found for arguments, found in answered("neighbours").items()}
+        compared = Counter()
+        for (file, first, second), margin in answered("margin").items():
+            if first != second and (file, first) in beside:
+                overlap = second in beside[file, first]
+                self.assertEqual(overlap, margin >= struct.unpack_from("<I", file, 4)[0], (file.hex(), first, second))
+                compared[overlap, margin > 0] += 1
+        self.assertGreaterEqual(min(compared[kind] for kind in ((True, True), (False, True), (False, False))), 5)
 
     def test_plan_14_is_the_one_of_the_vectors(self):
         file, tags = octets("plan 14", "short tags of plan 14")

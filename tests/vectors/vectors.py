@@ -26,6 +26,7 @@ CALLS = {
     "chain": ("bytes number number entries", {"chain": "list", "no_chain": ""}),
     "neighbours": ("bytes number entries", {"neighbours": "list"}),
     "reach": ("bytes number", {"reach": "number number number"}),
+    "margin": ("bytes number number", {"margin": "signed"}),
     "same": ("bytes bytes", {"same": "", "different": ""}),
     "add": ("bytes number number number octets octets", CHANGED),
     "withdraw": ("bytes number number octets octets", CHANGED),
@@ -60,6 +61,10 @@ def number_of(word):
     if not re.fullmatch(r"0|[1-9][0-9]*", word) or int(word) >= 2**32:
         raise Malformed(f"'{word}' is no number")
     return int(word)
+
+
+def signed_of(word):
+    return -number_of(word[1:]) if word[:1] == "-" and word != "-0" else number_of(word)
 
 
 def bytes_of(word):
@@ -111,7 +116,7 @@ def long_list_of(word):
     return whole
 
 
-SHORT = {"bytes": bytes_of, "number": number_of, "list": list_of, "entries": number_of, "octets": number_of}
+SHORT = {"bytes": bytes_of, "number": number_of, "signed": signed_of, "list": list_of, "entries": number_of, "octets": number_of}
 LONG = dict(SHORT, bytes=long_bytes_of, list=long_list_of)
 
 
@@ -205,6 +210,8 @@ def answer_of(call, result, lent):
         return ("tag", *result), []
     if call == "reach":
         return ("reach", *result), []
+    if call == "margin":
+        return ("margin", *lent[0]), [1]
     if call == "write":
         return ("written", lent[0][:tag_length]), [tag_length]
     if call == "same":
@@ -220,6 +227,9 @@ def said(reader, vector):
     for at, kind in TABLES[vector.call]:
         arguments[at] = lend(kind, arguments[at])
         lent.append(arguments[at])
+    if vector.call == "margin":  # The place for its number, of which a vector has no word. No byte of what stands there is 0.
+        lent.append([0x5A5A5A5A5A5A5A5A])
+        arguments.append(lent[0])
     before = [table[:] for table in lent]
     try:
         answer, written = answer_of(vector.call, getattr(reader, vector.call)(*arguments), lent)
