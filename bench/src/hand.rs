@@ -571,3 +571,16 @@ pub fn hand_reach(file: &[u8], at: usize) -> Result<(u16, u16, u16), Refusal> {
     let apart = smaller + windows[smaller..].partition_point(|pair| window(pair).0 <= latest);
     Ok((steps + 1, smaller as u16, levels_from(parents, apart).first as u16))
 }
+
+/// Minutes shared, or below 0 those between the two.
+#[no_mangle]
+#[inline(never)]
+pub fn hand_margin(file: &[u8], first: usize, second: usize) -> Result<i64, Refusal> {
+    let Plan { pairs, .. } = validate(file)?;
+    let (windows, _) = pairs.as_chunks::<8>();
+    let Some(first) = windows.get(first) else { return no(7, 0, 0) };
+    let Some(second) = windows.get(second) else { return no(7, 1, 0) };
+    let end = min(end_of(first), end_of(second));
+    let offset = max(window(first).0, window(second).0);
+    Ok(end as i64 - offset as i64)
+}

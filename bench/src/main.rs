@@ -5,6 +5,7 @@
 //!   bench --count CALL WHO SHAPE N    makes one call only (CALL of WHO, ours or hand), for an instruction counter
 mod change;
 mod hand;
+mod margin;
 mod page;
 mod plans;
 mod reach;
@@ -206,6 +207,8 @@ fn count(words: &[String]) {
         ("reach", "ours") => keep(reach::reach(file, u)),
         ("reach", _) => keep(hand::hand_reach(file, u)),
         (call @ ("add" | "withdraw"), who) => change::count(call, who, file, u),
+        ("margin", "ours") => keep(margin::margin(file, u, v)),
+        ("margin", _) => keep(hand::hand_margin(file, u, v)),
         ("chain", "ours") => keep(chain(file, u, v, &mut lent.out)),
         ("chain", _) => keep(hand::hand_chain(file, u, v, &mut lent.out)),
         ("neighbours", "ours") => keep(neighbours(file, u, &mut lent.out)),
@@ -234,4 +237,5 @@ fn main() {
     page::table();
     reach::table();
     change::table();
+    margin::table();
 }

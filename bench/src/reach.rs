@@ -1,7 +1,7 @@
 //! Reach: a call beside the same by hand in Rust, measured turn by turn, and beside all pairs of the component by breadth-first search.
 use crate::hand::{hand_pair, hand_reach, Refusal};
 use crate::interface::poddreshi_reach;
-use crate::plans::{self, Case, SHAPES};
+use crate::plans::{self, Case, Shape, SHAPES};
 use crate::search::{self, Graph, Library, Scratch};
 use crate::time::{medians, few_rounds, times};
 use crate::{keep, tag, FEW};
@@ -25,6 +25,16 @@ fn positions(case: &Case) -> impl Iterator<Item = usize> + '_ {
 /// In all plans of a case. Over fewer windows that come again and again the ratio of equal instructions differed by half from one build of
 /// this program to another, perhaps since a processor learns their branches (docs/DECISIONS.md).
 pub const WINDOWS: usize = 1 << 17;
+
+/// The rows of every shape and size over so many windows, and how many times longer a call takes for twice the windows, by shape.
+pub fn rows(measure: fn(&Case), measure_growth: fn([&Case; 2]) -> f64) -> String {
+    let of_shape = |shape: Shape| {
+        let cases = [256, 1024, 2048].map(|n| Case::of_plans(shape, n, WINDOWS / n));
+        cases.iter().for_each(measure);
+        format!("{} {:.2}", shape.name(), measure_growth([&cases[1], &cases[2]]))
+    };
+    SHAPES.map(of_shape).join(", ")
+}
 
 /// Each plan with a position.
 pub fn asked(case: &Case) -> impl Iterator<Item = (&[u8], usize)> {
@@ -151,15 +161,10 @@ pub fn table() {
          | all pairs, Boost Graph's search | search / ours | pairs behind the root |"
     );
     println!("|---|---|---|---|---|---|---|---|---|---|---|");
-    let mut growth = Vec::new();
-    for shape in SHAPES {
-        let cases = [256, 1024, 2048].map(|n| Case::of_plans(shape, n, WINDOWS / n));
-        cases.iter().for_each(measure);
-        growth.push(format!("{} {:.2}", shape.name(), measure_growth([&cases[1], &cases[2]])));
-    }
+    let growth = rows(measure, measure_growth);
     println!(
         "\nAll pairs: of the component of each of the {FEW} positions in the first plan, on adjacency lists that stand ready; medians of \
          three rounds, or one round where it takes more than a second."
     );
-    println!("Reach at 2,048 windows over reach at 1,024: {}.", growth.join(", "));
+    println!("Reach at 2,048 windows over reach at 1,024: {growth}.");
 }
