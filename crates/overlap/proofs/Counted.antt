@@ -1,8 +1,8 @@
 -- What overlap is in an accepted plan's file, by the number of its windows; and the bound of each of its windows.
 -- Vocabulary: windows-order, bound-fits, own-offset.
 -- Assumes nothing.
-use Prim.Native.Nat.{ℕ, _+_, _-_, _<_}
-use mathlib.Core.{Path._≡_, List.List}
+use Prim.Native.Nat.{ℕ, _<_}
+use mathlib.Core.List.{List}
 use native.Mathlib.Omega.{arith}
 use Rattle.interval_graph.specs.Order.{IntervalOrder}
 use Rattle.plan.specs.File.{windowCount, minimumHandover, windowAt, endOf}

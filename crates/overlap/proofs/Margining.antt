@@ -1,13 +1,13 @@
 -- Laws of the margin. It is the minutes shared where there are any, 0 where two windows touch, and below 0 what lies between them; it is
 -- the same in either order; it reaches a minimum just where as many minutes are shared; and of a window with itself it is its length.
--- Vocabulary: less-ge, less-lt, less-fits, less-formed, less-neg, less-reaches, reaches-margin; margin-ge, margin-lt, margin-symmetric, margin-shared,
--- margin-gap, margin-reaches, margin-own; margin-refused, margin-past, margin-answered.
+-- Vocabulary: less-ge, less-lt, less-fits, less-formed, less-neg, less-reaches, reaches-margin; margin-ge, margin-lt, margin-symmetric,
+-- margin-shared, margin-gap, margin-reaches, margin-own; margin-refused, margin-past, margin-answered.
 -- Assumes nothing.
-use Prim.Native.Nat.{ℕ, zero, suc, _+_, _-_, _^_, _≤_, _<_, min, max}
-use mathlib.Core.{Bool.true, Bool.true≢false, Path._≡_, Path.refl, Path.sym, Path.ap, Path._∙_, Logic._⊎_, Logic.inl, Logic.inr, Logic.⊎-elim, Logic._↔_, List.List}
+use Prim.Native.Nat.{ℕ, zero, suc, _+_, _-_, _≤_, _<_, min, max}
+use mathlib.Core.{Bool.true, Bool.true≢false, Path._≡_, Path.sym, Path.ap, Path._∙_, Logic._⊎_, Logic.inl, Logic.inr, Logic.⊎-elim, Logic._↔_, List.List}
 use native.Mathlib.Omega.{arith}
 use lib.IntN.{ℤ, pos, negsuc, negℤ, natAbs, _-ℤ_}
-use lib.Dec.{leb, T, leb→le, le→leb}
+use lib.Dec.{leb→le, le→leb}
 use lib.Signed.{mag, nonNeg, _≤ℤ_}
 use mir.{Syntax.w64, Val.SFits, Val.toZ, Val.ofZ, Facts.toZ-pos, Facts.toZ-ofZ}
 use borrow.Author.Tests.{lt-ltb, le-ltb, le-leb, leb-true}
@@ -30,11 +30,11 @@ use Rattle.overlap.specs.Margin.{marginOf, marginBetween, marginQuestion
 use Rattle.overlap.proofs.Overlap.{shared-minutes}
 
 -- A difference of two numbers, on either side of 0.
-pub less-ge : (a b : ℕ) → b ≤ a → pos a -ℤ pos b ≡ pos (a - b)
+less-ge : (a b : ℕ) → b ≤ a → pos a -ℤ pos b ≡ pos (a - b)
 less-ge a zero h = ap pos (omega arith)
 less-ge a (suc b) h = rw (le-ltb a (suc b) h)
 
-pub less-lt : (a b : ℕ) → a < b → pos a -ℤ pos b ≡ negsuc (b - suc a)
+less-lt : (a b : ℕ) → a < b → pos a -ℤ pos b ≡ negsuc (b - suc a)
 less-lt a zero h = absurd (omega arith)
 less-lt a (suc b) h = rw (lt-ltb a (suc b) h)
 
@@ -52,22 +52,22 @@ module _ (a b : ℕ) (fa : SFits w64 (pos a)) (fb : SFits w64 (pos b)) where
   less-formed = rw (toZ-pos w64 (fa .sfits), toZ-pos w64 (fb .sfits)) (toZ-ofZ fits)
 
 -- A number of a kind is no number of the other, and is told by its size.
-pub pos-not-neg : (m k : ℕ) → pos m ≡ negsuc k → ⊥
+pos-not-neg : (m k : ℕ) → pos m ≡ negsuc k → ⊥
 pos-not-neg m k e = true≢false (ap nonNeg e)
 
-pub pos-same : (m k : ℕ) → pos m ≡ pos k → m ≡ k
+pos-same : (m k : ℕ) → pos m ≡ pos k → m ≡ k
 pos-same m k e = ap natAbs e
 
-pub neg-same : (m k : ℕ) → negsuc m ≡ negsuc k → m ≡ k
+neg-same : (m k : ℕ) → negsuc m ≡ negsuc k → m ≡ k
 neg-same m k e = ap mag e
 
--- A number reaches another, as a whole number, exactly if it does as a number; and nothing below 0 reaches one.
-pub reach-pos : (m k : ℕ) → (pos m ≤ℤ pos k) ↔ (m ≤ k)
+-- Two numbers stand in order as whole numbers exactly if they do as numbers.
+reach-pos : (m k : ℕ) → (pos m ≤ℤ pos k) ↔ (m ≤ k)
 reach-pos m k = (λ h. leb→le m k (h .le), λ h. record { le = le→leb m k h })
 
 module _ (m a b : ℕ) where
   -- The test on sums is that a difference reaches the minimum, whatever the two numbers are.
-  pub less-reaches : (pos m ≤ℤ (pos a -ℤ pos b)) ↔ (b + m ≤ a)
+  less-reaches : (pos m ≤ℤ (pos a -ℤ pos b)) ↔ (b + m ≤ a)
   less-reaches =
       ⊎-elim (λ h. rw (less-lt a b h) (λ r. absurd (r .le), λ s. absurd (omega arith)))
       (λ h. rw (less-ge a b h) (λ r. omega (arith, reach-pos m (a - b) .0 r), λ s. reach-pos m (a - b) .1 (omega arith))) (lt-or-ge a b)
@@ -77,7 +77,7 @@ module _ (m a b : ℕ) where
   reaches-margin = (λ t. less-reaches .1 (leb-true (b + m) a t), λ r. le-leb (b + m) a (less-reaches .0 r))
 
 -- A difference lies as much below 0 as is missing.
-pub less-neg : (a b g : ℕ) → (pos a -ℤ pos b ≡ negℤ (pos g)) ↔ (a + g ≡ b)
+less-neg : (a b g : ℕ) → (pos a -ℤ pos b ≡ negℤ (pos g)) ↔ (a + g ≡ b)
 less-neg a b zero = (
   λ e. ⊎-elim (λ h. absurd (pos-not-neg 0 _ (sym e ∙ less-lt a b h)))
       (λ h. omega (arith, pos-same (a - b) 0 (sym (less-ge a b h) ∙ e))) (lt-or-ge a b),
@@ -96,11 +96,11 @@ module _ (u v : Window) where
   abbrev offset : ℕ
   offset = max (u .offset) (v .offset)
 
-  pub margin-ge : offset ≤ end → marginOf u v ≡ pos (end - offset)
+  margin-ge : offset ≤ end → marginOf u v ≡ pos (end - offset)
   unfolding marginOf
   margin-ge h = less-ge end offset h
 
-  pub margin-lt : end < offset → marginOf u v ≡ negsuc (offset - suc end)
+  margin-lt : end < offset → marginOf u v ≡ negsuc (offset - suc end)
   unfolding marginOf
   margin-lt h = less-lt end offset h
 

@@ -1,7 +1,6 @@
 -- Paper 01's plan 12: its tree's tables come out of the definitions by computation, from the file's bytes alone. And paper 02's two windows.
 -- Assumes nothing.
-use Prim.Native.Nat.{ℕ}
-use mathlib.Core.{Bool.true, Bool.false, Path._≡_, Path.refl, List.List, List.[], List._∷_}
+use mathlib.Core.{Bool.true, Bool.false, Path._≡_, Path.refl, List.[], List._∷_}
 use lib.IntN.{pos, negsuc}
 use Rattle.sequences.specs.Table.{table}
 use Rattle.interval_graph.proofs.Plan12.{definitions, row, listing}

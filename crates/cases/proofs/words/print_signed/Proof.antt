@@ -1,7 +1,7 @@
 -- `cases::words::print_signed` is safe: what lies below 0 is made positive one short of itself, which fits, and so does that and one.
 -- Assumes nothing.
 use Prim.Native.Nat.{ℕ, suc, _-_, _^_, _<_}
-use mathlib.Core.{Bool.true, Bool.false, Bool.true≢false, Path._≡_, Path.sym}
+use mathlib.Core.{Bool.true, Bool.false, Bool.true≢false, Path._≡_}
 use native.Mathlib.Omega.{arith}
 use lib.{Dec.T, IntN.ℤ, IntN.pos, IntN.negsuc, IntN.natAbs, IntN._-ℤ_, Signed.ltZ, Signed.nonNeg}
 use mir.{Syntax.w64, Val.Fits, Val.SFits, Val.toZ, Val.ofZ, Facts.toZ-pos, Facts.toZ-ofZ}
