@@ -34,7 +34,7 @@ pub record MarginTold (file : List ℕ) (u v : ℕ) : Type 0 where
 abbrev pub Margins : Type 0
 Margins = (file : List ℕ) → AcceptedPlan file → (u v : ℕ) → u < windowCount file → v < windowCount file → MarginTold file u v
 
--- Neighbours, chain and reach ask one question of the end of a window and the offset of a later one, and it is the margin's: whether end less
--- offset reaches the minimum.
+-- Neighbours, chain and reach ask one question of the end of a window and the offset of a later one, and it is the margin's: whether end
+-- less offset reaches the minimum.
 abbrev pub MarginTested : Type 0
 MarginTested = (minimum end offset : ℕ) → (marginReaches minimum end offset ≡ true) ↔ (pos minimum ≤ℤ (pos end -ℤ pos offset))

@@ -11,7 +11,7 @@ use Rattle.plan.specs.Validation.{planQuestions}
 use Rattle.overlap.specs.declared.margins.MarginAnswer.{MarginAnswer}
 use Rattle.overlap.specs.declared.margins.MarginAnswer.the-variants.{Margin, Refused}
 
--- A whole number, which may lie below 0: no difference is cut there. (`pos n` is n as a whole number, `negsuc n` is −(n + 1).)
+-- A whole number, which may lie below 0: no difference is cut there. (`pos n` is n as a whole number, and `-ℤ` takes one from another.)
 unfoldable pub marginOf : Window → Window → ℤ
 marginOf u v = pos (min (endOf u) (endOf v)) -ℤ pos (max (u .offset) (v .offset))
 
