@@ -45,7 +45,7 @@ plan-12-answered = refl
 
 -- 16; the window's own 4 and 5, with position 0; 7; each before 8, and 16 before 4, 5 and 7.
 pub plan-12-refused : changeAnswerOf file (adding 12 (window 9 0)) 0 0 ∷ changeAnswerOf file (adding 13 (window 9 0)) 0 0
-    ∷ changeAnswerOf (fileOf 12 5 []) (adding 13 (window 9 4)) 0 0 ∷ changeAnswerOf file (adding 13 (window 10000000 1)) 0 0
+    ∷ changeAnswerOf (fileOf 12 5 []) (adding 13 (window 9 4)) 0 0 ∷ changeAnswerOf file (adding 13 (window 4294967295 1)) 0 0
     ∷ changeAnswerOf file (withdrawing 12 7) 0 0 ∷ changeAnswerOf file (withdrawing 13 7) 0 0 ∷ []
     ≡ Refused (refusalBy 16) ∷ Refused (refusalBy 4) ∷ Refused (refusalBy 4) ∷ Refused (refusalBy 5) ∷ Refused (refusalBy 16)
     ∷ Refused (refusalBy 7) ∷ []

@@ -1,7 +1,8 @@
 -- Laws of the margin. It is the minutes shared where there are any, 0 where two windows touch, and below 0 what lies between them; it is
 -- the same in either order; it reaches a minimum just where as many minutes are shared; and of a window with itself it is its length.
--- Vocabulary: less-ge, less-lt, less-fits, less-formed, less-neg, less-reaches, reaches-margin; margin-ge, margin-lt, margin-symmetric,
--- margin-shared, margin-gap, margin-reaches, margin-own; margin-refused, margin-past, margin-answered.
+-- Vocabulary: less-ge, less-lt, less-fits, less-formed, less-neg, less-reaches, reaches-margin, less-most, less-least; margin-ge, margin-lt,
+-- margin-symmetric, margin-shared, margin-gap, margin-reaches, margin-most, margin-least, margin-own; margin-refused, margin-past,
+-- margin-answered.
 -- Assumes nothing.
 use Prim.Native.Nat.{ℕ, zero, suc, _+_, _-_, _≤_, _<_, min, max}
 use mathlib.Core.{Bool.true, Bool.true≢false, Path._≡_, Path.sym, Path.ap, Path._∙_, Logic._⊎_, Logic.inl, Logic.inr, Logic.⊎-elim, Logic._↔_, List.List}
@@ -89,6 +90,17 @@ less-neg a b (suc k) = (
   λ e. less-lt a b (omega arith) ∙ ap negsuc (omega arith),
 )
 
+-- A difference is at most a number that is missing to none, and lies at most as much below 0 as is missing.
+less-most : (a b m : ℕ) → a ≤ b + m → (pos a -ℤ pos b) ≤ℤ pos m
+less-most a b m h =
+    ⊎-elim (λ l. rw (less-lt a b l) (record { le = tt })) (λ l. rw (less-ge a b l) (reach-pos (a - b) m .1 (omega arith))) (lt-or-ge a b)
+
+less-least : (a b g : ℕ) → b ≤ a + g → negℤ (pos g) ≤ℤ (pos a -ℤ pos b)
+less-least a b zero h = rw (less-ge a b (omega arith)) (reach-pos 0 (a - b) .1 (omega arith))
+less-least a b (suc k) h =
+    ⊎-elim (λ l. rw (less-lt a b l) (record { le = le→leb (b - suc a) k (omega arith) })) (λ l. rw (less-ge a b l) (record { le = tt }))
+    (lt-or-ge a b)
+
 module _ (u v : Window) where
   abbrev end : ℕ
   end = min (endOf u) (endOf v)
@@ -134,6 +146,15 @@ module _ (u v : Window) where
     λ r. omega (arith, less-reaches m end offset .0 r, shared-minutes u v),
     λ s. less-reaches m end offset .1 (omega (arith, s, shared-minutes u v)),
   )
+
+  -- Of windows that have a minute and end by m, the margin lies from −(m − 2) to m.
+  pub margin-most : (m : ℕ) → endOf u ≤ m → marginOf u v ≤ℤ pos m
+  unfolding marginOf
+  margin-most m early = less-most end offset m (omega arith)
+
+  pub margin-least : (m : ℕ) → 1 ≤ u .length → 1 ≤ v .length → endOf u ≤ m → endOf v ≤ m → negℤ (pos (m - 2)) ≤ℤ marginOf u v
+  unfolding marginOf endOf
+  margin-least m some one early soon = less-least end offset (m - 2) (omega arith)
 
 pub margin-own : (w : Window) → marginOf w w ≡ pos (w .length)
 unfolding endOf

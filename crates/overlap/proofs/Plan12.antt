@@ -39,6 +39,17 @@ pub plan-12-margins :
 unfolding meaning marginOf marginBetween
 plan-12-margins = refl
 
+-- Where ends reach 4,294,967,295 (paper 02, Q-8): the bound is formed of true numbers, by a minimum of 1 and of a day; a window at that end
+-- of the line overlaps one that ends with it and touches one that ends where it begins; and margins have their extremes.
+pub late-computed :
+    (boundOf 1 (window 4294967294 1) ∷ boundOf 86400 (window 4294880895 86400) ∷ [] ≡ 4294967295 ∷ 4294880896 ∷ [])
+    × (marginReaches 1 4294967295 4294967294 ∷ marginReaches 1 4294967294 4294967294 ∷ marginReaches 86400 4294967295 4294880895
+    ∷ marginReaches 86400 4294967294 4294880895 ∷ [] ≡ true ∷ false ∷ true ∷ false ∷ [])
+    × (marginOf (window 0 1) (window 4294967294 1) ∷ marginOf (window 0 4294967295) (window 0 4294967295) ∷ []
+    ≡ negsuc 4294967292 ∷ pos 4294967295 ∷ [])
+unfolding meaning marginReaches boundOf marginOf
+late-computed = (refl, refl, refl)
+
 -- A refusal has the number of its question, and the second position its input; the first is asked about first.
 pub plan-12-margin-answers :
     marginAnswerOf file 0 4 ∷ marginAnswerOf file 7 9 ∷ marginAnswerOf file 0 7 ∷ marginAnswerOf (two 11) 2 0 ∷ []

@@ -24,7 +24,8 @@ minimumPlace = 4
 unfoldable pub minimumHandover : List ℕ → ℕ
 minimumHandover file = le32 file minimumPlace
 
--- "Then follow n pairs …: offset (4 bytes), length (4 bytes), in minutes."
+-- "Then follow n pairs …: offset (4 bytes), length (4 bytes), in minutes." Paper 02, Q-8: "The unit is agreed outside the file": a minute,
+-- here and in all that follows, is the plan's unit of time, which may be a second.
 abbrev pub windowLength : ℕ
 windowLength = 8
 

@@ -20,8 +20,9 @@ greatestCount = 2048
 abbrev pub greatestMinimum : ℕ
 greatestMinimum = 86400
 
+-- "Check 5 now lets offset + length reach 4,294,967,295" (paper 02, Q-8).
 abbrev pub greatestEnd : ℕ
-greatestEnd = 10000000
+greatestEnd = 4294967295
 
 -- "Turned away: 14, a minimum outside 1 to 86,400".
 abbrev pub minimumPasses : ℕ → Bool
@@ -34,7 +35,7 @@ offsetBefore file (suc v) = windowAt file v .offset
 
 -- Of a window of a plan with this minimum, by itself:
 -- "Every window is at least that long; check 4 now says this" (paper 02, Q-2).
--- "5. Is the true sum offset + length at most 10,000,000?"
+-- "5. Is the true sum offset + length at most" the greatest end?
 abbrev pub ownQuestions : (minimum : ℕ) → Window → List Question
 ownQuestions minimum w = question 4 (leb minimum (w .length)) ∷ question 5 (leb (endOf w) greatestEnd) ∷ []
 

@@ -15,5 +15,5 @@ pub const GREATEST_COUNT: usize = 2048;
 // The greatest minimum handover.
 pub const GREATEST_MINIMUM: u32 = 86400;
 
-// The greatest end of a window.
-pub const GREATEST_END: u64 = 10000000;
+// The greatest end of a window, which 32 bits just hold. A sum of offset and length may be greater, until question 5 is passed.
+pub const GREATEST_END: u64 = 4294967295;
