@@ -1,5 +1,5 @@
 -- What the offsets and bounds of an accepted plan say of overlap, and what the two searches in them find: parents and lasts.
--- Vocabulary: earlier-overlaps, offsets-do-not-fall, parent-found, Fingers, last-found.
+-- Vocabulary: earlier-overlaps, offsets-do-not-fall, parent-found, Fingers, filling-past, last-found.
 -- Assumes nothing.
 use Prim.Native.Nat.{ℕ, _+_, _≤_, _<_}
 use mathlib.Core.{Bool.true, Bool.false, Path._≡_, Path.sym, Path._∙_, Logic.⊎-elim, List.List}
@@ -21,7 +21,7 @@ use Rattle.overlap.proofs.Overlap.{overlaps-bound}
 use Rattle.plan.proofs.Counted.{windows-few}
 use Rattle.overlap.proofs.Counted.{windows-order, bound-fits, own-offset}
 use Rattle.minutes.specs.Tables.{offsetAt, boundAt, parentOf, lastOf}
-use Rattle.minutes.specs.Passes.{Prepared, FirstPast, Sorted, LastBefore}
+use Rattle.minutes.specs.Passes.{filling, Prepared, FirstPast, Sorted, LastBefore}
 
 -- No window before `finger` overlaps one from v on.
 abbrev Behind : List ℕ → ℕ → ℕ → ℕ → Type 0
@@ -74,9 +74,10 @@ module _ {file : List ℕ} {windows : ℕ} (plan : AcceptedWindows file windows)
         filling = filling-turn (parentOf file) windows parents₀ parents v r room within (parent-found finger v r within (s .behind) found) (s .filling);
       }
 
-  bounds-fit : (u : ℕ) → u < windows → boundAt file u ≤ 4294967295
+  -- No bound lies past the number with which the table of offsets is filled up, so no search takes that for a window's offset.
+  pub filling-past : (u : ℕ) → u < windows → boundAt file u ≤ filling
   unfolding boundAt
-  bounds-fit u within = omega (arith, bound-fits file (plan .accepted) u (omega (arith, plan .counted)))
+  filling-past u within = omega (arith, bound-fits file (plan .accepted) u (omega (arith, plan .counted)))
 
   -- A window begins before its bound.
   own-bound : (u : ℕ) → u < windows → offsetAt file u < boundAt file u
@@ -90,7 +91,7 @@ module _ {file : List ℕ} {windows : ℕ} {offsets : List ℕ} (p : Prepared fi
   pub prepared-do-not-fall : Sorted offsets greatestCount
   prepared-do-not-fall i j le within =
       ⊎-elim (λ h. omega (arith, held i (omega arith), held j h, offsets-do-not-fall (p .plan) i j le h)) (λ h. ⊎-elim
-      (λ g. omega (arith, held i g, p .rest j h within, own-bound (p .plan) i g, bounds-fit (p .plan) i g))
+      (λ g. omega (arith, held i g, p .rest j h within, own-bound (p .plan) i g, filling-past (p .plan) i g))
       (λ g. omega (arith, p .rest i g (omega arith), p .rest j h within)) (lt-or-ge i windows)) (lt-or-ge j windows)
 
   module _ (u r : ℕ) (within : u < windows) (found : LastBefore offsets (boundAt file u) greatestCount r) where
@@ -103,7 +104,7 @@ module _ {file : List ℕ} {windows : ℕ} {offsets : List ℕ} (p : Prepared fi
 
     found-window : r < windows
     found-window =
-        ⊎-elim (λ h. h) (λ h. absurd (omega (arith, found .before (omega arith), p .rest r h (found .high), bounds-fit (p .plan) u within)))
+        ⊎-elim (λ h. h) (λ h. absurd (omega (arith, found .before (omega arith), p .rest r h (found .high), filling-past (p .plan) u within)))
         (lt-or-ge r windows)
 
     -- What it finds is the last.

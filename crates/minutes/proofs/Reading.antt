@@ -14,7 +14,7 @@ use Rattle.plan.specs.AcceptedWindows.{AcceptedWindows}
 use Rattle.plan.proofs.Counted.{windows-few, minimum-within}
 use Rattle.overlap.proofs.Counted.{bound-fits}
 use Rattle.minutes.specs.Tables.{offsetAt, boundAt}
-use Rattle.minutes.specs.Passes.{Prepared}
+use Rattle.minutes.specs.Passes.{filling, Prepared}
 
 pub offset-read : (file : List ℕ) (v : ℕ) (w : Window) → w ≡ windowAt file v → w .offset ≡ offsetAt file v
 unfolding offsetAt
@@ -31,25 +31,25 @@ module _ (file : List ℕ) (ok : AcceptedPlan file) (v : ℕ) (h : v < windowCou
   unfolding boundAt boundOf
   bound-read = rw (ends, same, read)
 
--- The table of offsets that the pass leaves, where it was full of the greatest number before.
+-- The table of offsets that the pass leaves, where it was full of the filling before.
 pub prepared-read : (file : List ℕ) (windows : ℕ) (offsets : List ℕ) → AcceptedWindows file windows →
-    offsets ≡ overwritten (replicate greatestCount 4294967295) (table (offsetAt file) windows) → Prepared file windows offsets
+    offsets ≡ overwritten (replicate greatestCount filling) (table (offsetAt file) windows) → Prepared file windows offsets
 prepared-read file windows offsets p e = filled greatestCount (windows-few p) e refl
   where
-    filled : (n : ℕ) → windows ≤ n → offsets ≡ overwritten (replicate n 4294967295) (table (offsetAt file) windows) → n ≡ greatestCount →
+    filled : (n : ℕ) → windows ≤ n → offsets ≡ overwritten (replicate n filling) (table (offsetAt file) windows) → n ≡ greatestCount →
         Prepared file windows offsets
     filled n room written size =
         record {
           plan = p;
-          offsets-held = overwritten-holds (offsetAt file) windows (replicate n 4294967295) offsets (omega
-              (arith, length-replicate {A = ℕ} n 4294967295)) written;
+          offsets-held = overwritten-holds (offsetAt file) windows (replicate n filling) offsets (omega
+              (arith, length-replicate {A = ℕ} n filling)) written;
           long = rw written (omega (
             arith,
             size,
-            length-overwritten (replicate n 4294967295) (table (offsetAt file) windows) (omega
-                (arith, length-replicate {A = ℕ} n 4294967295, length-table (offsetAt file) windows)),
-            length-replicate {A = ℕ} n 4294967295,
+            length-overwritten (replicate n filling) (table (offsetAt file) windows) (omega
+                (arith, length-replicate {A = ℕ} n filling, length-table (offsetAt file) windows)),
+            length-replicate {A = ℕ} n filling,
           ));
-          rest = λ k h within. rw written (overwritten-past (offsetAt file) windows (replicate n 4294967295) k 0 h
-              ∙ getD-replicate n k 4294967295 0 (omega arith));
+          rest = λ k h within. rw written (overwritten-past (offsetAt file) windows (replicate n filling) k 0 h
+              ∙ getD-replicate n k filling 0 (omega arith));
         }

@@ -1,22 +1,26 @@
 -- What the passes are handed and what the searches inside them find. Nothing here has to be believed: no public promise
 -- cites it.
--- Vocabulary: Prepared, FirstPast, Quartered, Sorted, LastBefore.
+-- Vocabulary: filling, Prepared, FirstPast, Quartered, Sorted, LastBefore.
 use Prim.Native.Nat.{ℕ, zero, suc, _*_, _≤_, _<_}
 use mathlib.Core.Path.{_≡_}
 use mathlib.Core.List.{List}
 use lib.ListN.{length, getD}
 use Rattle.sequences.specs.Table.{Holds}
-use Rattle.plan.specs.Validation.{greatestCount}
+use Rattle.plan.specs.Validation.{greatestCount, greatestEnd}
 use Rattle.plan.specs.AcceptedWindows.{AcceptedWindows}
 use Rattle.minutes.specs.Tables.{offsetAt}
 
+-- The greatest number that an end may be (paper 02, Q-8), and so one that no bound lies past: `filling-past`.
+abbrev pub filling : ℕ
+filling = greatestEnd
+
 -- An accepted plan's file, how many windows it has, and its offsets as a table as long as any plan's, which is filled up
--- with a number that no bound lies past.
+-- with that number.
 pub record Prepared (file : List ℕ) (windows : ℕ) (offsets : List ℕ) : Type 0 where
   pub plan : AcceptedWindows file windows
   pub offsets-held : Holds offsets (offsetAt file) windows
   pub long : length offsets ≡ greatestCount
-  pub rest : (k : ℕ) → windows ≤ k → k < greatestCount → getD offsets k 0 ≡ 4294967295
+  pub rest : (k : ℕ) → windows ≤ k → k < greatestCount → getD offsets k 0 ≡ filling
 
 -- r is the first position from `from` on whose bound lies past the offset, or `to`.
 pub record FirstPast (bounds : ℕ → ℕ) (offset from to r : ℕ) : Type 0 where

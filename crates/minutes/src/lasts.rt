@@ -5,6 +5,7 @@ use crate::answers::table_room;
 use crate::windows::bound_at;
 use crate::windows::read_offsets;
 use plan::GREATEST_COUNT;
+use plan::GREATEST_END;
 ghost use mathlib.Core.Path.{_≡_};
 ghost use Prim.Native.Nat.{_≤_, _<_};
 ghost use lib.ListN.{length};
@@ -17,6 +18,9 @@ ghost use Rattle.minutes.specs.Passes.{Prepared, Quartered, Sorted, Last
 
 // A plan of no more windows is searched in four steps and not in six.
 const FEW: usize = 256;
+
+// What stands in the table of offsets behind those of the windows. No bound lies past it, since none lies past an end.
+const FILLING: u32 = GREATEST_END as u32;
 
 // The last of the first positions whose offset lies before the bound; 0 where there is none. Of three comparisons at a time none
 // waits for another, and they are a factor, so that the search compiles to no branch that a processor would have to guess.
@@ -50,8 +54,8 @@ fn last_before(offsets: &[u32], bound: u32) -> usize
     requires { ⌜ Sorted (now offsets) greatestCount ⌝ }
     ensures { λ r. ⌜ LastBefore (now (offsets .entry)) bound greatestCount r ⌝ }
 {
-    // No bound lies past the greatest number, with which the table is filled up.
-    if offsets[FEW] == 4294967295 {
+    // Where a plan has no more windows, the filling begins here or before, and no offset from here on lies before a bound.
+    if offsets[FEW] == FILLING {
         return last_within(offsets, bound, FEW);
     }
     last_within(offsets, bound, GREATEST_COUNT)
@@ -75,7 +79,7 @@ pub(crate) fn fill_lasts(file: &[u8], windows: usize, lasts: &mut [u16])
     requires { ⌜ windows ≤ length (now lasts) ⌝ }
     ensures { λ _. ⌜ now (lasts .exit) ≡ overwritten (now (lasts .entry)) (table (lastOf (now (file .entry))) windows) ⌝ }
 {
-    let mut offsets = [4294967295; GREATEST_COUNT];
+    let mut offsets = [FILLING; GREATEST_COUNT];
     read_offsets(file, windows, &mut offsets);
     find_lasts(file, windows, &offsets, lasts);
 }
