@@ -1,5 +1,5 @@
 -- The statements of specs/, proved: Refusals, Tree, EndToEnd (`demand-3`, in Counts), Calls, Short, Cases, Minimum, Page, Reach,
--- Change, Margin.
+-- Change, Margin, Ends.
 --   Refusals  demand 1
 --   Tree      demand 2
 --   Counts    demand 3, of the definitions that the calls answer by
@@ -12,6 +12,7 @@
 --   Reach     Q-5: reach exactly
 --   Change    Q-6: adding and withdrawing
 --   Margin    Q-7: margin between two windows
+--   Ends      Q-8: plans in seconds
 pub mod Refusals
 pub mod Tree
 pub mod Counts
@@ -24,3 +25,4 @@ pub mod Page
 pub mod Reach
 pub mod Change
 pub mod Margin
+pub mod Ends

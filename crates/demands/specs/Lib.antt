@@ -33,6 +33,7 @@
 --   Change    paper 02, Q-6: adding and withdrawing. It rests on changing/specs/{Change, Questions}, and what it says of tags on what Tree
 --             rests on
 --   Margin    paper 02, Q-7: margin between two windows. It rests on windows and overlap as EndToEnd does, and on overlap/specs/Margin
+--   Ends      paper 02, Q-8: plans in seconds. It rests on what Margin and Change rest on, and on the last (interval_graph/specs/Tree)
 -- Merely named, and proved right: sizes and starts (Forest), Walk, Numbers (the rule on two tags), marginReaches and boundOf (Overlap).
 pub mod EndToEnd
 pub mod Tree
@@ -45,3 +46,4 @@ pub mod Page
 pub mod Reach
 pub mod Change
 pub mod Margin
+pub mod Ends
