@@ -49,7 +49,9 @@ fn try_file(text: &[u8], at: usize) {
         next_word(text, shared),
     );
     if bytes <= BUFFER_LENGTH {
-        try_plan(&buffer[..bytes], 0, 1);
+        let file = &buffer[..bytes];
+        try_plan(file, 0, 1);
+        try_margin(file, 0, 1);
     }
 }
 

@@ -40,11 +40,14 @@ put-plan-requires c κs = search needs
 array-share-prefix-buffer : tie.Need-array-share-prefix-buffer
 array-share-prefix-buffer c = search needs
 
-slice-aggregate-try-plan : tie.Need-slice-aggregate-try-plan
-slice-aggregate-try-plan c = sym (length-take-le _ _ (omega arith))
+slice-aggregate-file : tie.Need-slice-aggregate-file
+slice-aggregate-file c = sym (length-take-le _ _ (omega arith))
 
 try-plan-requires : tie.Need-try-plan-requires
 try-plan-requires c κs = search needs
+
+try-margin-requires : tie.Need-try-margin-requires
+try-margin-requires c κs = search needs
 
 returns : tie.Need-returns
 returns c = search needs
@@ -55,5 +58,5 @@ returns-2 c = search needs
 pub try-file-spec : {M : Type 1} → statement M
 try-file-spec =
     tie.close (tie.spec number-at-requires next-word-requires number-at-requires-2 cast-windows next-word-requires-2 number-at-requires-3
-    cast-minimum slice-aggregate-put-plan next-word-requires-3 put-plan-requires array-share-prefix-buffer slice-aggregate-try-plan
-    try-plan-requires returns returns-2)
+    cast-minimum slice-aggregate-put-plan next-word-requires-3 put-plan-requires array-share-prefix-buffer slice-aggregate-file
+    try-plan-requires try-margin-requires returns returns-2)
