@@ -19,8 +19,10 @@
  * A REFUSAL ALTERS NOTHING that is lent. Where a call writes, what lies past the written entries stays.
  *
  * A PLAN FILE begins with 8 bytes, each number with its lowest byte first: the plan number (2), the number of windows n (2) and the
- * minimum handover in minutes (4). Two different windows OVERLAP when they share at least the plan's minimum of minutes, and parents,
- * lasts, chains, neighbours, sameness and tags all go by that. A file that was accepted before version 2.0.0 is always refused.
+ * minimum handover (4). Offsets, lengths and the minimum count one unit of time, a minute or a second for example, which no byte tells:
+ * it is agreed outside the file. Two different windows OVERLAP when they share at least the plan's minimum of units, and parents, lasts,
+ * chains, neighbours, sameness and tags all go by that. A file that was accepted before version 2.0.0 is always refused; one that was
+ * accepted from then on is accepted still.
  *
  * SHORT TAGS are for even plans: those in which no window ends before the one ahead of it in the file (equal ends pass). Two short
  * tags of such a plan give the least number of handovers, as its long ones do; of another plan they may not, and none are written.
@@ -33,7 +35,7 @@
  *   14  Is the minimum handover 1 to 86,400?              9  Has the tag 10 bytes, the tag file a multiple of 10?
  *    3  Has the file exactly 8 + 8 n bytes?                  (A short tag 8, a file of them a multiple of 8.)
  *    4  Is the length at least the minimum handover?     10  Is each field after the plan number at most 2,047?
- *    5  Is offset + length at most 10,000,000?           11  Have both tags one plan number?
+ *    5  Is offset + length at most 4,294,967,295?        11  Have both tags one plan number?
  *    6  Is the offset at least that of the one before?   12  Do tags of equal component and rank agree in all fields?
  *   13  Does no window end before the one ahead of it?
  *       (Asked where short tags are wanted.)
@@ -46,7 +48,7 @@
 #define PODDRESHI_H
 
 /* The version of the library that this header belongs to. */
-#define PODDRESHI_VERSION "3.2.0"
+#define PODDRESHI_VERSION "4.0.0"
 
 #include <stddef.h>
 #include <stdint.h>
@@ -144,11 +146,11 @@ uint64_t poddreshi_chain(const uint8_t *file, size_t file_length, size_t first, 
 uint64_t poddreshi_neighbours(const uint8_t *file, size_t file_length, size_t at, uint16_t *out, size_t out_length);
 
 /* The margin between two windows. The plan's questions, and 7 for the first position and then the second.
- * MARGIN: *margin is set to the smaller of their two ends less the greater of their two offsets. Above 0 it is the number of minutes
+ * MARGIN: *margin is set to the smaller of their two ends less the greater of their two offsets. Above 0 it is the number of units
  *     that both cover; it is 0 where one ends just as the other begins; and below 0 it is, with its sign turned, the number of
- *     minutes between them. Of one window named twice it is the window's length. The order of the two makes no difference. Two
- *     different windows overlap exactly where it is at least the plan's minimum handover: those with a margin above 0 and below
- *     the minimum share minutes and do not overlap. */
+ *     units between them. Of one window named twice it is the window's length. The order of the two makes no difference. It lies
+ *     from -4,294,967,293 to 4,294,967,295, which takes more than 32 bits. Two different windows overlap exactly where it is at
+ *     least the plan's minimum handover: those with a margin above 0 and below the minimum share time and do not overlap. */
 uint64_t poddreshi_margin(const uint8_t *file, size_t file_length, size_t first, size_t second, int64_t *margin);
 
 /* Are two plans the same: equal numbers of windows, and the same pairs of positions overlap, in each by its own minimum? The plan's

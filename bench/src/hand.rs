@@ -22,6 +22,7 @@ fn no<T>(number: u8, input: u8, position: usize) -> Result<T, Refusal> {
 }
 
 const MOST: usize = 2048;
+const LATEST: u64 = 4_294_967_295;
 
 fn two(bytes: &[u8], at: usize) -> u16 {
     u16::from_le_bytes([bytes[at], bytes[at + 1]])
@@ -65,7 +66,7 @@ fn validate(file: &[u8]) -> Result<Plan<'_>, Refusal> {
         if length < minimum {
             return no(4, 0, position);
         }
-        if offset as u64 + length as u64 > 10_000_000 {
+        if offset as u64 + length as u64 > LATEST {
             return no(5, 0, position);
         }
         if offset < before {
@@ -224,7 +225,7 @@ pub fn hand_add(
     if length < minimum {
         return no(4, 0, 0);
     }
-    if offset as u64 + length as u64 > 10_000_000 {
+    if offset as u64 + length as u64 > LATEST {
         return no(5, 0, 0);
     }
     let (before, behind) = pairs.split_at(8 * windows.partition_point(|pair| window(pair).0 <= offset));
