@@ -9,6 +9,7 @@ impl Comparison {
     /// Each two of some positions, in both orders, and each of them twice.
     pub fn margins(&mut self, file: &[u8], plan: &Plan, some: &[usize]) {
         let due = Margins::of(plan);
+        due.hold_in_runs(plan, some);
         let mut margin = |u: usize, v: usize| {
             let mut out = calls::number(&mut self.random);
             assert_eq!(calls::margin(file, u, v, &mut out), Answer::Margin, "margin of {u} and {v}");

@@ -24,6 +24,11 @@ impl Plan {
     }
 }
 
+/// Question 5 of any window.
+fn ends_in_time(offset: u64, length: u64) -> bool {
+    offset + length <= 10_000_000
+}
+
 /// Questions 1, 2, 14 and 3, and then 4 to 6, window after window.
 pub fn read_plan(file: &[u8], input: u16) -> Result<Plan, Refusal> {
     if file.len() < 8 {
@@ -45,7 +50,7 @@ pub fn read_plan(file: &[u8], input: u16) -> Result<Plan, Refusal> {
         if length < minimum {
             return Err(refusal(4, input, position));
         }
-        if offset + length > 10_000_000 {
+        if !ends_in_time(offset, length) {
             return Err(refusal(5, input, position));
         }
         if position > 0 && offset < windows[position - 1].0 {
@@ -93,7 +98,7 @@ pub fn may_change(plan: &Plan, change: &Change) -> Result<(), Refusal> {
     let asked = match change.what {
         What::Add(offset, length) => {
             let (offset, length) = (offset as u64, length as u64);
-            vec![(15, n != 2048), new_number, (4, length >= plan.minimum), (5, offset + length <= 10_000_000)]
+            vec![(15, n != 2048), new_number, (4, length >= plan.minimum), (5, ends_in_time(offset, length))]
         }
         What::Withdraw(at) => vec![new_number, (7, (0..n).contains(&at))],
     };
@@ -160,10 +165,10 @@ impl Set {
 /// Plans that end later than this have their minutes taken in runs in which no window begins or ends.
 const MINUTE_BY_MINUTE: u64 = 4096;
 
-/// The minutes of a plan up to its latest end, laid out in runs; in a plan that ends early each run is one minute.
+/// The minutes of a plan, laid out in runs. In each of them a window covers every minute or none.
 struct Minutes {
-    /// The first minute of each run.
-    starts: Vec<u64>,
+    /// The first minute of each run, and the last.
+    runs: Vec<[u64; 2]>,
     /// How many minutes each run has.
     lengths: Vec<u64>,
     /// The same for each 64 runs, which stand in one word of a set.
@@ -174,20 +179,32 @@ struct Minutes {
 
 impl Minutes {
     fn of(plan: &Plan) -> Minutes {
-        let latest = plan.windows.iter().map(|w| w.0 + w.1).max().unwrap_or(0);
-        let bounds: Vec<u64> = if latest <= MINUTE_BY_MINUTE {
-            (0..=latest).collect()
-        } else {
-            let mut bounds: Vec<u64> = plan.windows.iter().flat_map(|w| [w.0, w.0 + w.1]).collect();
-            bounds.sort_unstable();
-            bounds.dedup();
-            bounds
-        };
+        match plan.windows.iter().map(|w| w.0 + w.1).max() {
+            Some(latest) if latest > MINUTE_BY_MINUTE => Minutes::in_runs(plan),
+            latest => Minutes::one_by_one(plan, latest.unwrap_or(0)),
+        }
+    }
+
+    /// Each run is one minute: the plainest reading of the papers. A plan that ends late has too many minutes for that.
+    fn one_by_one(plan: &Plan, latest: u64) -> Minutes {
+        Minutes::between((0..=latest).collect(), plan)
+    }
+
+    /// Each run goes from a minute at which some window begins or ends to the next such minute, however many minutes that are.
+    fn in_runs(plan: &Plan) -> Minutes {
+        let mut bounds: Vec<u64> = plan.windows.iter().flat_map(|w| [w.0, w.0 + w.1]).collect();
+        bounds.sort_unstable();
+        bounds.dedup();
+        Minutes::between(bounds, plan)
+    }
+
+    /// Each run goes from one of the bounds up to, not including, the next.
+    fn between(bounds: Vec<u64>, plan: &Plan) -> Minutes {
         let lengths: Vec<u64> = bounds.windows(2).map(|two| two[1] - two[0]).collect();
-        let starts = bounds[..lengths.len()].to_vec();
-        let covered = runs_where(plan, &starts, |(offset, length), minute| offset <= minute && minute < offset + length);
+        let runs: Vec<[u64; 2]> = bounds.windows(2).map(|two| [two[0], two[1] - 1]).collect();
+        let covered = runs_where(plan, &runs, |(offset, length), minute| offset <= minute && minute < offset + length);
         let together = lengths.chunks(64).map(|runs| runs.iter().sum()).collect();
-        Minutes { starts, lengths, together, covered }
+        Minutes { runs, lengths, together, covered }
     }
 
     /// How many minutes both windows cover.
@@ -211,12 +228,14 @@ impl Minutes {
     }
 }
 
-/// By position, the runs whose minutes stand to the window as is asked.
-fn runs_where(plan: &Plan, starts: &[u64], stands: impl Fn((u64, u64), u64) -> bool) -> Vec<Set> {
+/// By position, the runs whose minutes stand to the window as is asked: the first of a run, and with it the last.
+fn runs_where(plan: &Plan, runs: &[[u64; 2]], stands: impl Fn((u64, u64), u64) -> bool) -> Vec<Set> {
     let of_window = |&window: &(u64, u64)| {
-        let mut set = Set::empty(starts.len());
-        for (run, &minute) in starts.iter().enumerate() {
-            if stands(window, minute) {
+        let mut set = Set::empty(runs.len());
+        for (run, &[first, last]) in runs.iter().enumerate() {
+            let all = stands(window, first);
+            assert_eq!(all, stands(window, last), "minutes {first} and {last} of one run, beside {window:?}");
+            if all {
                 set.add(run);
             }
         }
@@ -236,9 +255,12 @@ pub struct Margins {
 
 impl Margins {
     pub fn of(plan: &Plan) -> Margins {
-        let minutes = Minutes::of(plan);
-        let before = runs_where(plan, &minutes.starts, |(offset, _), minute| minute < offset);
-        let behind = runs_where(plan, &minutes.starts, |(offset, length), minute| offset + length <= minute);
+        Margins::laid_out(plan, Minutes::of(plan))
+    }
+
+    fn laid_out(plan: &Plan, minutes: Minutes) -> Margins {
+        let before = runs_where(plan, &minutes.runs, |(offset, _), minute| minute < offset);
+        let behind = runs_where(plan, &minutes.runs, |(offset, length), minute| offset + length <= minute);
         Margins { minutes, before, behind }
     }
 
@@ -250,6 +272,20 @@ impl Margins {
             (shared, 0) => shared as i64,
             (0, gap) => -(gap as i64),
             (shared, gap) => panic!("{u} and {v} share {shared} minutes and have {gap} between them"),
+        }
+    }
+
+    /// That runs say the same of each two of some positions: the minutes shared, and the margin. Plans that end late can be laid
+    /// out in runs alone, so wherever a plan ends early enough to have each minute by itself, the runs are held to that plainer
+    /// layout.
+    pub fn hold_in_runs(&self, plan: &Plan, some: &[usize]) {
+        if self.minutes.lengths.iter().any(|&length| length > 1) {
+            return;
+        }
+        let runs = Margins::laid_out(plan, Minutes::in_runs(plan));
+        for (&u, &v) in some.iter().flat_map(|u| some.iter().map(move |v| (u, v))) {
+            let said = |margins: &Margins| (margins.minutes.shared(u, v), margins.between(u, v));
+            assert_eq!(said(self), said(&runs), "{u} and {v}: shared minutes and margin, by minutes (left) and by runs");
         }
     }
 }
