@@ -7,7 +7,7 @@ use crate::forms::Form;
 use crate::oracle::{self, Change, Changed, Plan, What};
 use crate::random::Random;
 use crate::refusals;
-use crate::shapes::{file_of, realised, window_in, windows_in, LATEST};
+use crate::shapes::{at_the_end, file_of, realised, too_long, window_in, windows_in, LATEST};
 use std::collections::BTreeSet;
 
 /// The rooms that a change of n windows fills to the last byte.
@@ -28,16 +28,30 @@ fn other_number(old: u16, random: &mut Random) -> u16 {
 /// A window that may be added to a plan that is not full. It begins at, just before or behind a minute at which some window begins or
 /// ends; it is as short as it may be, or shares with some window the minimum, a minute less or a minute more.
 fn any_window(plan: &Plan, random: &mut Random) -> (u32, u32) {
-    let minimum = plan.minimum as u32;
-    let begins = plan.windows.iter().map(|w| w.0 as u32);
-    let ends = plan.windows.iter().map(|w| (w.0 + w.1) as u32);
-    let minutes: Vec<u32> = begins.clone().chain(begins).chain(ends).chain([0, LATEST]).collect();
+    let (minimum, latest) = (plan.minimum, LATEST as u64);
+    let begins = plan.windows.iter().map(|w| w.0);
+    let ends = plan.windows.iter().map(|w| w.0 + w.1);
+    let minutes: Vec<u64> = begins.clone().chain(begins).chain(ends).chain([0, latest]).collect();
     let mut near = || (random.pick(&minutes) + random.pick(&[0, 1, 1, 2, 9])).saturating_sub(1);
-    let offset = near().min(LATEST - minimum);
+    let offset = near().min(latest - minimum);
     let end = near() + minimum;
     let shortest = random.below(3) == 0;
-    let length = if shortest { minimum } else { end.saturating_sub(offset).clamp(minimum, LATEST - offset) };
-    (offset, length)
+    let length = if shortest { minimum } else { end.saturating_sub(offset).clamp(minimum, latest - offset) };
+    (offset as u32, length as u32)
+}
+
+/// Windows that questions 4 and 5 refuse: too short; too late by a minute; both; and such as end in time where a sum has 32 bits.
+fn wrong_windows(plan: &Plan, offset: u32, random: &mut Random) -> Vec<What> {
+    let minimum = plan.minimum as u32;
+    let late = offset.max(1);
+    let latest = LATEST - random.below(100) as u32;
+    vec![
+        What::Add(offset, minimum - 1),
+        What::Add(late, too_long(late)),
+        What::Add(LATEST - minimum.saturating_sub(2), minimum - 1),
+        What::Add(LATEST, LATEST),
+        What::Add(latest, too_long(latest) + minimum + random.below(100) as u32),
+    ]
 }
 
 /// The number of a file's plan, as it stands there.
@@ -154,16 +168,8 @@ impl Comparison {
         let new = other_number(plan.number, random);
         let (offset, length) = any_window(plan, random);
         let withdrawn = What::Withdraw(random.below(n.max(1) as u64) as usize);
-        let minimum = plan.minimum as u32;
-        // With the length below, its sum in 32 bits is an end that a window may have.
-        let latest = u32::MAX - random.below(100) as u32;
         let added = What::Add(offset, length);
-        let mut wrong = vec![
-            What::Add(offset, minimum - 1),
-            What::Add(offset, LATEST + 1 - offset),
-            What::Add(LATEST + 1, minimum - 1),
-            What::Add(latest, offset.max(minimum).wrapping_sub(latest)),
-        ];
+        let mut wrong = wrong_windows(plan, offset, random);
         wrong.extend(positions_past(n, random).map(What::Withdraw));
         let refused = Change { plan: new, what: random.pick(&wrong) };
         wrong.extend([added, withdrawn]);
@@ -191,7 +197,7 @@ impl Comparison {
     pub fn no_change(&mut self, file: &[u8], no: Refusal) {
         let random = &mut self.random;
         let plan = random.pick(&[file.first().map_or(12, |&low| low as u16), 12, 13]);
-        let added = What::Add(random.pick(&[0, 3, 10_000_001]), random.pick(&[0, 1, 86_400]));
+        let added = What::Add(random.pick(&[0, 3, LATEST]), random.pick(&[0, 1, 86_400]));
         let withdrawn = What::Withdraw(random.pick(&[0, 1, 2047, usize::MAX]));
         let what = random.pick(&[added, withdrawn]);
         let rooms = [0, 1].map(|_| 8 * self.some_room());
@@ -204,14 +210,16 @@ impl Comparison {
 /// may. It is a minute too short or just long enough; it shares with a later window the minimum or a minute less; it ends as late as it
 /// may, or a minute later.
 fn additions(plan: &Plan) -> BTreeSet<(u32, u32)> {
-    let minimum = plan.minimum as u32;
-    let begins: Vec<u32> = plan.windows.iter().map(|w| w.0 as u32).collect();
+    let (minimum, latest) = (plan.minimum, LATEST as u64);
+    let begins: Vec<u64> = plan.windows.iter().map(|w| w.0).collect();
     let near = begins.iter().flat_map(|&begin| [begin.saturating_sub(1), begin, begin + 1]);
     let mut all = BTreeSet::new();
-    for offset in near.chain([0, LATEST - minimum]) {
+    for offset in near.chain([0, latest - minimum]) {
         let later = begins.iter().filter(|&&begin| begin >= offset);
         let ends = later.chain([&offset]).flat_map(|begin| [begin + minimum - 1, begin + minimum]);
-        all.extend(ends.chain([LATEST, LATEST + 1]).map(|end| (offset, end - offset)));
+        // No window at the first minute is long enough to end too late.
+        let lengths = ends.chain([latest, latest + 1]).filter_map(|end| u32::try_from(end - offset).ok());
+        all.extend(lengths.map(|length| (offset as u32, length)));
     }
     all
 }
@@ -227,13 +235,15 @@ pub fn every_change(comparison: &mut Comparison, file: &[u8]) {
     }
 }
 
-/// An overlap pattern by some minimum, with two minutes between the offsets, at which a window can be added. Each window that is withdrawn
-/// is added again, so that every pattern also comes of an addition, by each of its windows.
+/// An overlap pattern by some minimum, with two minutes between the offsets, at which a window can be added; half of the times at
+/// the end of the line. Each window that is withdrawn is added again, so that every pattern also comes of an addition, by each of
+/// its windows.
 pub fn pattern(comparison: &mut Comparison, lasts: &[usize]) {
     let random = &mut comparison.random;
     let minimum = random.pick(&[1, 1, 2, 7, 86_400]);
     let offsets: Vec<u32> = (0..lasts.len() as u32).map(|u| 1 + 3 * u).collect();
     let windows = realised(lasts, minimum, &offsets, &mut |shortest, longest| random.between(shortest as u64, longest as u64) as u32);
+    let windows = if random.below(2) == 0 { windows } else { at_the_end(&windows) };
     let file = file_of(random.next() as u16, minimum, &windows);
     every_change(comparison, &file);
 }
@@ -289,7 +299,15 @@ impl Asked {
 /// Changes of n windows of plan 12, whose minimum is 5: all that can be wrong with one, in every combination.
 fn right_and_wrong(n: usize) -> Vec<Asked> {
     let full = if n == 2048 { vec![15] } else { vec![] };
-    let windows = [(10, 5, vec![]), (10, 4, vec![4]), (9_999_996, 5, vec![5]), (9_999_997, 4, vec![4, 5])];
+    let windows = [
+        (10, 5, vec![]),
+        (LATEST - 5, 5, vec![]),
+        (10, 4, vec![4]),
+        (LATEST - 4, 5, vec![5]),
+        (10, too_long(10), vec![5]),
+        (LATEST - 3, 4, vec![4, 5]),
+        (LATEST, 4, vec![4, 5]),
+    ];
     let added = windows.map(|(offset, length, wrong)| (What::Add(offset, length), [&full[..], &wrong].concat()));
     let past = [n, n + 1, usize::MAX].map(|at| (What::Withdraw(at), vec![7]));
     let within = [0, n.saturating_sub(1)].into_iter().filter(|&at| at < n).map(|at| (What::Withdraw(at), vec![]));
@@ -331,7 +349,7 @@ pub fn plan_first(comparison: &mut Comparison) {
     let more = file_of(12, 5, &vec![(10, 9); 2049]);
     let no_minimum = file_of(12, 0, &vec![(10, 9); 2048]);
     let mut files = vec![(1, 0, sound[..7].to_vec()), (2, 0, more), (14, 0, no_minimum), (3, 0, sound[..sound.len() - 1].to_vec())];
-    for (number, window) in [(4, (10, 4)), (5, (10, 10_000_000)), (6, (9, 9))] {
+    for (number, window) in [(4, (10, 4)), (5, (10, too_long(10))), (6, (9, 9))] {
         for at in [1, 2047] {
             let mut windows = vec![(10, 9); 2048];
             windows[at] = window;
@@ -382,22 +400,27 @@ pub fn plan_numbers(comparison: &mut Comparison) {
     }
 }
 
-/// Every offset by every length near an edge, among them such as have a sum that is right in 32 bits; the greatest sum by every offset.
+/// Every offset by every length near an edge, among them such as have a sum that is right in 32 bits; the greatest sum by every
+/// offset, with one less and one more.
 pub fn edges(comparison: &mut Comparison) {
     for minimum in [1, 5, 256, 86_400] {
-        let file = file_of(12, minimum, &[(0, minimum), (5_000_000, minimum + 7), (LATEST - minimum, minimum)]);
+        let windows = [(0, minimum), (5_000_000, minimum + 7), (1 << 31, minimum), (LATEST - minimum, minimum)];
+        let file = file_of(12, minimum, &windows);
         let lengths = [0, minimum - 1, minimum, minimum + 1];
-        let sums = [LATEST - minimum - 1, LATEST - minimum, LATEST - minimum + 1, LATEST - 1, LATEST, LATEST + 1];
-        let numbers = [1, 255, 65_535, 5_000_000, 1 << 31, u32::MAX - 1, u32::MAX].into_iter().chain(lengths).chain(sums);
+        let sums = [LATEST - minimum - 1, LATEST - minimum, LATEST - minimum + 1, LATEST - 1, LATEST];
+        let others = [1, 255, 65_535, 5_000_000, 10_000_000, 10_000_001, (1 << 31) - 1, 1 << 31];
+        let numbers = others.into_iter().chain(lengths).chain(sums);
         for offset in numbers.clone() {
-            let wrapped = [0, 1, minimum, LATEST, LATEST + 1].map(|sum| sum.wrapping_sub(offset));
+            let wrapped = [0, 1, minimum, LATEST - 1, LATEST].map(|sum| sum.wrapping_sub(offset));
             for length in numbers.clone().chain(wrapped) {
                 comparison.one_change(&file, &Change { plan: 13, what: What::Add(offset, length) });
             }
         }
-        let refused = [(0, minimum - 1, 4), (u32::MAX, minimum - 1, 4), (0, LATEST + 1, 5), (u32::MAX, minimum + 1, 5)];
-        for (offset, length, number) in refused {
+        let short = [0, LATEST].map(|offset| (offset, minimum - 1, 4));
+        let late = [(1, LATEST, 5), (LATEST - minimum + 1, minimum, 5), (LATEST, minimum + 1, 5), (LATEST, LATEST, 5)];
+        for (offset, length, number) in short.into_iter().chain(late) {
             comparison.refuses_change(&file, &Change { plan: 13, what: What::Add(offset, length) }, number);
+            comparison.refuses_change(&file, &Change { plan: 12, what: What::Add(offset, length) }, 16);
         }
     }
 }

@@ -27,8 +27,8 @@ use answers::{refusal, Answer};
 use compare::{Comparison, Depth};
 use forms::{Form, FORMS};
 use random::Random;
-use shapes::{between_others, evened, file_of, greatest_minimum, in_few_minutes, lengthened, linked, nearly_even, old_file_of, patterns};
-use shapes::{plain, windows, with_minimum, SHAPES};
+use shapes::{at_the_end, between_others, evened, file_of, greatest_minimum, in_few_minutes, lengthened, linked, nearly_even};
+use shapes::{old_file_of, patterns, plain, windows, with_minimum, LATEST, SHAPES};
 use std::sync::Mutex;
 use std::time::Instant;
 
@@ -121,13 +121,17 @@ fn every_refusal(run: &mut Run) {
     run.report("refusals");
 }
 
-/// Every overlap pattern, with every pair of positions in both orders, and every two patterns for sameness.
+/// Every overlap pattern, with every pair of positions in both orders, at the start of the line and at its end, where it is the
+/// same; and every two patterns for sameness.
 fn every_pattern(run: &mut Run) {
     for n in 0..=run.times(6, 8) as usize {
         for lasts in patterns(n) {
             run.case("a pattern", &mut |comparison| {
                 let plan = comparison.random.next() as u16;
-                comparison.file(&file_of(plan, 1, &plain(&lasts)), Depth::Whole);
+                let [early, late] = [plain(&lasts), at_the_end(&plain(&lasts))].map(|windows| file_of(plan, 1, &windows));
+                comparison.file(&early, Depth::Whole);
+                comparison.file(&late, Depth::Whole);
+                comparison.same(&early, &late).are(format_args!("same, at the end of the line"), Answer::Same, &());
             });
         }
     }
@@ -197,9 +201,16 @@ fn every_lowered_end(run: &mut Run) {
     run.report("patterns with an end lowered");
 }
 
+/// A window with another length: about the minimum, or a minute more or less than before.
+fn relengthened((offset, length): (u32, u32), minimum: u32, random: &mut Random) -> (u32, u32) {
+    let short = minimum - 1 + random.between(1, 12) as u32;
+    let other = random.pick(&[short, short, length - 1, length.saturating_add(1)]);
+    (offset, other.clamp(minimum, LATEST - offset))
+}
+
 /// Small random plans of each shape, all pairs, and each beside a plan that differs in one window and one that has another minimum.
 fn small_plans(run: &mut Run) {
-    for _ in 0..run.times(2_000, 50_000) {
+    for _ in 0..run.times(1_600, 40_000) {
         for shape in SHAPES {
             run.case(&format!("{shape:?}, small"), &mut |comparison| {
                 let random = &mut comparison.random;
@@ -208,8 +219,7 @@ fn small_plans(run: &mut Run) {
                 let mut other = plan.clone();
                 if n > 0 {
                     let at = random.below(n as u64) as usize;
-                    other[at].1 = minimum - 1 + random.between(1, 12) as u32;
-                    other[at].1 = other[at].1.min(10_000_000 - other[at].0);
+                    other[at] = relengthened(plan[at], minimum, random);
                 }
                 let other_minimum = random.between(1, greatest_minimum(&plan) as u64) as u32;
                 let file = file_of(random.next() as u16, minimum, &plan);
@@ -222,7 +232,7 @@ fn small_plans(run: &mut Run) {
     run.report("small plans");
 }
 
-/// Small plans of each shape by every minimum that they can have.
+/// Small plans of each shape by rising minimums.
 fn rising_minimums(run: &mut Run) {
     for _ in 0..run.times(20, 1_000) {
         for shape in SHAPES {
@@ -366,12 +376,17 @@ fn changed_plans(run: &mut Run) {
 }
 
 const NUMBERS: [u32; 16] = [
-    0, 1, 2, 9, 255, 256, 65_535, 65_536, 86_400, 86_401, 9_999_999, 10_000_000, 10_000_001, 1 << 31, u32::MAX - 1, u32::MAX,
+    0, 1, 2, 9, 255, 256, 65_535, 65_536, 86_400, 86_401, 10_000_000, 10_000_001, (1 << 31) - 1, 1 << 31, LATEST - 1, LATEST,
 ];
+
+/// Some numbers, and those that with the one beside them have the greatest sum, one less and one more, which in 32 bits is 0.
+fn numbers_beside(other: u32) -> impl Iterator<Item = u32> {
+    NUMBERS.into_iter().chain([LATEST - 1, LATEST, 0].map(|sum| sum.wrapping_sub(other)))
+}
 
 /// Files with one field changed, cut short anywhere, with bytes added, or without a minimum.
 fn damaged_files(run: &mut Run) {
-    for _ in 0..run.times(250, 10_000) {
+    for _ in 0..run.times(200, 8_000) {
         for shape in SHAPES {
             run.case(&format!("{shape:?}, damaged"), &mut |comparison| {
                 let random = &mut comparison.random;
@@ -388,12 +403,15 @@ fn damaged_files(run: &mut Run) {
                     other[2..4].copy_from_slice(&(count as u16).to_le_bytes());
                     comparison.file(&other, Depth::Whole);
                 }
-                // The minimum, and then offset and length of each window.
-                for field in 0..1 + 2 * n {
-                    for number in NUMBERS {
-                        let mut other = file.clone();
-                        other[4 + 4 * field..8 + 4 * field].copy_from_slice(&number.to_le_bytes());
-                        comparison.file(&other, Depth::Whole);
+                for number in NUMBERS {
+                    comparison.file(&file_of(12, number, &plan), Depth::Whole);
+                }
+                for (at, &(offset, length)) in plan.iter().enumerate() {
+                    let offsets = numbers_beside(length).map(|number| (number, length));
+                    for window in offsets.chain(numbers_beside(offset).map(|number| (offset, number))) {
+                        let mut other = plan.clone();
+                        other[at] = window;
+                        comparison.file(&file_of(12, minimum, &other), Depth::Whole);
                     }
                 }
                 comparison.file(&old_file_of(12, &plan), Depth::Whole);
@@ -411,7 +429,7 @@ fn damaged_files(run: &mut Run) {
 fn edges_of_n(run: &mut Run) {
     run.case("n at its limit", &mut |comparison| {
         for n in [2047, 2048, 2049] {
-            let plan = vec![(9_999_999, 1); n];
+            let plan = vec![(LATEST - 1, 1); n];
             comparison.file(&file_of(3, 1, &plan), Depth::Sampled);
             comparison.file(&file_of(3, 1, &plan)[..9], Depth::Sampled);
             comparison.file(&file_of(3, 0, &plan), Depth::Sampled);

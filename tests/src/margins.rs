@@ -4,6 +4,7 @@ use crate::calls;
 use crate::compare::{Comparison, Depth};
 use crate::oracle::{Margins, Plan};
 use crate::shapes::{file_of, minimum_in, window_in, LATEST};
+use std::collections::BTreeSet;
 
 impl Comparison {
     /// Each two of some positions, in both orders, and each of them twice.
@@ -61,14 +62,16 @@ impl Comparison {
     }
 }
 
-/// Windows that begin and end at every edge: at the first and the last minutes that a plan can have, and where numbers grow out of 8, 15,
-/// 16 and 23 bits. Among them are the longest window and the longest gap. By a greater minimum those that are too short are left out.
+/// Windows that begin and end at every edge: at the first and the last minutes that a plan can have, where numbers grow out of 8,
+/// 15, 16, 24 and 31 bits, and at the greatest end of before. Among them are the longest window and the longest gap. By a greater
+/// minimum those that are too short are left out.
 pub fn edges(comparison: &mut Comparison) {
-    let minutes = [0, 1, 2, 255, 256, 257, 32_767, 32_768, 32_769, 65_535, 65_536, 65_537, 8_388_607, 8_388_608];
-    let minutes: Vec<u32> = minutes.into_iter().chain([LATEST - 257, LATEST - 256, LATEST - 2, LATEST - 1, LATEST]).collect();
+    let grown = [8, 15, 16, 24, 31].into_iter().flat_map(|bits| [(1 << bits) - 1, 1 << bits]);
+    let others = [0, 1, 2, 10_000_000, 10_000_001, LATEST - 256, LATEST - 2, LATEST - 1, LATEST];
+    let minutes: BTreeSet<u32> = grown.chain(others).collect();
     for minimum in [1, 2, 256, 32_768, 65_536, 86_400] {
-        let ends = |offset: u32| minutes.iter().filter(move |&&end| end >= offset + minimum).map(move |end| (offset, end - offset));
-        let windows: Vec<(u32, u32)> = minutes.iter().flat_map(|&offset| ends(offset)).collect();
+        let windows = |&offset: &u32| minutes.range(offset..).map(move |end| (offset, end - offset));
+        let windows: Vec<(u32, u32)> = minutes.iter().flat_map(windows).filter(|window| window.1 >= minimum).collect();
         comparison.file(&file_of(12, minimum, &windows), Depth::Whole);
     }
 }

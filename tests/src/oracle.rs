@@ -1,7 +1,7 @@
 //! What the papers say, by brute force: windows as sets of minutes, overlap as a count of the minutes that both sets have, a margin as
 //! that count or as one of the minutes between them, least numbers of handovers by breadth-first search, reach as the greatest of them
 //! all, post-order by recursion, a changed plan as one whose windows are sorted anew. Nothing here is taken from the library: where it
-//! has a formula, this has a search or a count.
+//! has a formula, this has a search or a count. A minute is one of the plan's units, "agreed outside the file" (paper 02, Q-8).
 use crate::answers::{refusal, Answer, Refusal};
 use crate::forms::Form;
 use crate::shapes::file_of;
@@ -24,9 +24,9 @@ impl Plan {
     }
 }
 
-/// Question 5 of any window.
+/// Question 5 of any window. Paper 02, Q-8: "Check 5 now lets offset + length reach 4,294,967,295."
 fn ends_in_time(offset: u64, length: u64) -> bool {
-    offset + length <= 10_000_000
+    offset + length <= 4_294_967_295
 }
 
 /// Questions 1, 2, 14 and 3, and then 4 to 6, window after window.

@@ -1,8 +1,9 @@
-//! Every case of paper 01 by name, put to the library and to the oracle: both must have the paper's number, and leave every
-//! lent byte alike. The numbers stand as the paper prints them and none is computed; the few that it does not print follow from
-//! its words: a chain of two windows, the components of a plan of one window, plan 12 twice; and from those of paper 02: the short
-//! tags of plan 12 made even (Q-1), what becomes of two and three windows as the minimum rises (Q-2), pages of plan 12 (Q-4), and, found
-//! by hand, reaches of few windows (Q-5), plans that are changed (Q-6) and margins of plan 12 and of few windows (Q-7).
+//! Every case of paper 01 by name, put to the library and to the oracle: both must have the paper's number, and leave every lent
+//! byte alike. The numbers stand as the paper prints them and none is computed; the few that it does not print follow from its
+//! words: a chain of two windows, the components of a plan of one window, plan 12 twice; and from those of paper 02: the short
+//! tags of plan 12 made even (Q-1), what becomes of two and three windows as the minimum rises (Q-2), pages of plan 12 (Q-4),
+//! and, found by hand, reaches of few windows (Q-5), plans that are changed (Q-6), margins of plan 12 and of few windows (Q-7)
+//! and all of these at the end of the line (Q-8).
 use crate::answers::{refusal, Answer, Refusal};
 use crate::compare::Comparison;
 use crate::forms::Form;
@@ -108,7 +109,8 @@ pub fn cases() -> Vec<Case> {
     let paper_02 = [short_tags(), minimums(), rising_minimums(), minimums_refused(), pages_of_pairs(), reaches()];
     let changes = [added(), withdrawn(), changes_refused()];
     let margins = [margins(), margins_by_minimums(), margins_refused()];
-    paper_01.into_iter().chain(paper_02).chain(changes).chain(margins).flatten().collect()
+    let late = [latest_ends(), late_overlaps(), late_plans(), late_short_tags(), late_margins(), late_changes(), late_refused()];
+    paper_01.into_iter().chain(paper_02).chain(changes).chain(margins).chain(late).flatten().collect()
 }
 
 fn worked() -> Vec<Case> {
@@ -135,8 +137,6 @@ fn edges() -> Vec<Case> {
         short("n 2,049 is 2 even in a short file", Refused(2, 0)),
         case("sum 10,000,000 passes: a long window", &[(0, 10_000_000)], Begins(12, 1, 1)),
         case("sum 10,000,000 passes: a late window", &[(9_999_999, 1)], Begins(12, 1, 1)),
-        case("sum 10,000,001 is 5: a long window", &[(0, 10_000_001)], Refused(5, 0)),
-        case("sum 10,000,001 is 5: a late window", &[(10_000_000, 1)], Refused(5, 0)),
         case("length 0 and a falling offset together: 4", &[(5, 5), (4, 0)], Refused(4, 1)),
         case("P (0, 10) (10, 5) are two components", &[(0, 10), (10, 5)], Begins(12, 2, 2)),
         case("P (0, 11) (10, 5) are one component", &[(0, 11), (10, 5)], Begins(12, 2, 1)),
@@ -305,7 +305,6 @@ fn minimums_refused() -> Vec<Case> {
         by(5, "(5, 6) (5, 4), minimum 5: 4 at position 1", &[(5, 6), (5, 4)], Refused(4, 1)),
         by(86_400, "86,399 minutes, minimum 86,400: 4", &[(0, 86_399)], Refused(4, 0)),
         by(5, "length 4, minimum 5, and a falling offset together: 4", &[(5, 5), (4, 4)], Refused(4, 1)),
-        by(5, "length 4, minimum 5, and a sum of 10,000,001 together: 4", &[(9_999_997, 4)], Refused(4, 0)),
         by(0, "minimum 0 is 14", &TWO, Refused(14, 0)),
         by(86_401, "minimum 86,401 is 14", &TWO, Refused(14, 0)),
         by(86_401, "minimum 86,401 is 14, also where windows are as long", &[(0, 86_401)], Refused(14, 0)),
@@ -442,7 +441,6 @@ const LISTING_LONGER: &str = "\
 
 /// Paper 02, Q-6: "an added window goes behind all with the same or a smaller offset."
 fn added() -> Vec<Case> {
-    const LATE: [(u32, u32); 2] = [(0, 10), (9_999_999, 1)];
     let one = "13 1 1\n0 0 0 0 0 0\n";
     let apart = "13 2 2\n0 0 0 0 0 0\n1 1 1 0 0 0\n";
     let joined = "13 2 1\n0 0 0 0 1 0\n1 0 0 1 0 0\n";
@@ -459,7 +457,6 @@ fn added() -> Vec<Case> {
         case("a longer one behind a shorter that begins with it", &[(5, 1)], Becomes(adds(5, 9, 13), &[(5, 1), (5, 9)], joined)),
         case("where the other ends", &[(5, 5)], Becomes(adds(10, 1, 13), &[(5, 5), (10, 1)], apart)),
         case("between two", &[(0, 3), (5, 5)], Becomes(adds(2, 4, 13), &[(0, 3), (2, 4), (5, 5)], in_line)),
-        case("sum 10,000,000 passes", &[(0, 10)], Becomes(adds(9_999_999, 1, 13), &LATE, apart)),
         by_5("by minimum 5, 5 minutes are enough", adds(10, 5, 13), &[(0, 10), (5, 10), (10, 5)], in_line),
         by_5("by minimum 5, a minute less is shared", adds(11, 5, 13), &[(0, 10), (5, 10), (11, 5)], third_alone),
     ]
@@ -522,14 +519,10 @@ fn changes_refused() -> Vec<Case> {
         full("a withdrawal of 2,048 windows with the old plan number is 16", withdraws(0, 12), 16),
         plan_12("the old plan number is 16", adds(17, 3, 12), 16),
         plan_12("the old plan number, and a window of length 0: 16", adds(17, 0, 12), 16),
-        plan_12("the old plan number, and a sum of 10,000,001: 16", adds(10_000_000, 1, 12), 16),
         plan_12("the old plan number is 16 where a window is withdrawn", withdraws(4, 12), 16),
         plan_12("the old plan number, and position 7: 16", withdraws(7, 12), 16),
         plan_12("a window of length 0 is 4", adds(17, 0, 13), 4),
-        plan_12("a window of length 0 behind all is 4", adds(10_000_001, 0, 13), 4),
-        plan_12("a sum of 10,000,001 is 5", adds(10_000_000, 1, 13), 5),
-        plan_12("4,294,967,295 twice is 5", adds(4_294_967_295, 4_294_967_295, 13), 5),
-        plan_12("(4,294,967,295, 6) is 5", adds(4_294_967_295, 6, 13), 5),
+        plan_12("a window of length 0 behind all is 4", adds(30, 0, 13), 4),
         plan_12("position 7 of plan 12 is 7", withdraws(7, 13), 7),
         case("position 0 of the plan with no window is 7", &[], Stays(withdraws(0, 13), 7)),
         by(5, "4 minutes, minimum 5: 4", &TWO, Stays(adds(7, 4, 13), 4)),
@@ -583,10 +576,6 @@ fn margins() -> Vec<Case> {
         two("two that end together: the length of the shorter", &[(0, 10), (4, 6)], &[(0, 1, 6)]),
         two("a window inside another: its length", &[(0, 20), (7, 5)], &[(0, 1, 5)]),
         two("windows of a minute that touch: margin 0", &[(3, 1), (4, 1)], &[(0, 1, 0)]),
-        two("the longest gap", &[(0, 1), (9_999_999, 1)], &[(0, 1, -9_999_998), (0, 0, 1), (1, 1, 1)]),
-        two("the longest window", &[(0, 10_000_000)], &[(0, 0, 10_000_000)]),
-        two("the longest window twice", &[(0, 10_000_000), (0, 10_000_000)], &[(0, 1, 10_000_000)]),
-        two("the longest window and its last minute", &[(0, 10_000_000), (9_999_999, 1)], &[(0, 1, 1)]),
         two("a gap of 65,536 minutes", &[(0, 1), (65_537, 1)], &[(0, 1, -65_536)]),
         two("65,536 minutes in common", &[(0, 65_537), (1, 65_537)], &[(0, 1, 65_536), (0, 0, 65_537)]),
         two("2,048 windows in line: margins with the last", &in_line, &[(0, 2047, -4_091), (2046, 2047, 1), (2047, 2047, 3)]),
@@ -624,6 +613,207 @@ fn margins_refused() -> Vec<Case> {
         plan_12("margin of 0 and the greatest position", 0, usize::MAX, PAST_SECOND),
         plan_12("margin of the greatest position twice", usize::MAX, usize::MAX, PAST_FIRST),
         case("margin of 0 twice in the plan with no window", &[], NoMargin(0, 0, PAST_FIRST)),
+    ]
+}
+
+/// Paper 02, Q-8: "Check 5 now lets offset + length reach 4,294,967,295." "The old edge case at 10,000,001 passes, and the sum
+/// 4,294,967,296 is 5."
+fn latest_ends() -> Vec<Case> {
+    vec![
+        case("10,000,001 passes: a long window", &[(0, 10_000_001)], Begins(12, 1, 1)),
+        case("10,000,001 passes: a late window", &[(10_000_000, 1)], Begins(12, 1, 1)),
+        case("sum 4,294,967,295 passes: a long window", &[(0, 4_294_967_295)], Begins(12, 1, 1)),
+        case("sum 4,294,967,295 passes: a late window", &[(4_294_967_294, 1)], Begins(12, 1, 1)),
+        case("sum 4,294,967,295 passes: one in the middle", &[(2_147_483_647, 2_147_483_648)], Begins(12, 1, 1)),
+        case("sum 4,294,967,295 passes: 2,048 windows", &vec![(4_294_967_294, 1); 2048], Begins(12, 2048, 1)),
+        case("sum 4,294,967,296 is 5: a long window", &[(1, 4_294_967_295)], Refused(5, 0)),
+        case("sum 4,294,967,296 is 5: a late window", &[(4_294_967_295, 1)], Refused(5, 0)),
+        case("sum 4,294,967,296 is 5: one in the middle", &[(2_147_483_648, 2_147_483_648)], Refused(5, 0)),
+        case("sum 4,294,967,296 is 5 at position 1", &[(0, 4_294_967_295), (4_294_967_295, 1)], Refused(5, 1)),
+        case("length 0 and offset 4,294,967,295: 4", &[(4_294_967_295, 0)], Refused(4, 0)),
+        by(5, "length 4, minimum 5, and the sum 4,294,967,296 together: 4", &[(4_294_967_292, 4)], Refused(4, 0)),
+        by(5, "length 4, minimum 5, and the sum 4,294,967,299 together: 4", &[(4_294_967_295, 4)], Refused(4, 0)),
+        case("a falling offset and the sum 4,294,967,296 together: 5", &[(5, 5), (4, 4_294_967_292)], Refused(5, 1)),
+        case("a falling offset and the sum 4,294,967,295 together: 6", &[(5, 5), (4, 4_294_967_291)], Refused(6, 1)),
+        by(86_400, "86,400 minutes up to 4,294,967,295 pass", &[(4_294_880_895, 86_400)], Begins(12, 1, 1)),
+        by(86_400, "86,400 minutes up to 4,294,967,296 are 5", &[(4_294_880_896, 86_400)], Refused(5, 0)),
+        by(86_400, "86,399 minutes up to 4,294,967,296 are 4", &[(4_294_880_897, 86_399)], Refused(4, 0)),
+    ]
+}
+
+/// Q-8: windows that just overlap and such as just do not, where the greatest ends are, where 31 bits end, and where the
+/// greatest end of before was.
+fn late_overlaps() -> Vec<Case> {
+    let join = |minimum, name, windows: &[(u32, u32)]| by(minimum, name, windows, Handovers(0, 1, 1, Some(&[1, 0])));
+    let part = |minimum, name, windows: &[(u32, u32)]| by(minimum, name, windows, NoChain(0, 1));
+    vec![
+        join(1, "4,294,967,294 is covered by one that ends behind it", &[(4_294_967_290, 5), (4_294_967_294, 1)]),
+        part(1, "4,294,967,294 is where another ends", &[(4_294_967_290, 4), (4_294_967_294, 1)]),
+        join(1, "the longest window and its last minute", &[(0, 4_294_967_295), (4_294_967_294, 1)]),
+        part(1, "a minute less and the last minute", &[(0, 4_294_967_294), (4_294_967_294, 1)]),
+        join(1, "the longest window and the first minute", &[(0, 1), (0, 4_294_967_295)]),
+        join(1, "the last minute twice", &[(4_294_967_294, 1), (4_294_967_294, 1)]),
+        part(1, "the first minute and the last", &[(0, 1), (4_294_967_294, 1)]),
+        join(1, "2,147,483,647 is covered by one that ends behind it", &[(0, 2_147_483_648), (2_147_483_647, 2)]),
+        part(1, "2,147,483,647 is where another ends", &[(0, 2_147_483_647), (2_147_483_647, 2)]),
+        part(1, "2,147,483,648 is where another ends", &[(0, 2_147_483_648), (2_147_483_648, 2_147_483_647)]),
+        join(1, "10,000,000 is covered by one that ends behind it", &[(0, 10_000_001), (10_000_000, 1)]),
+        part(1, "10,000,000 is where another ends", &[(0, 10_000_000), (10_000_000, 1)]),
+        join(86_400, "the last 86,400 minutes twice", &[(4_294_880_895, 86_400), (4_294_880_895, 86_400)]),
+        join(86_400, "the last 86,400 minutes, and one more before them", &[(4_294_880_894, 86_401), (4_294_880_895, 86_400)]),
+        part(86_400, "the last 86,400 minutes share 86,399", &[(4_294_880_894, 86_400), (4_294_880_895, 86_400)]),
+        join(86_400, "the longest window and its last 86,400 minutes", &[(0, 4_294_967_295), (4_294_880_895, 86_400)]),
+        part(86_400, "a minute less and the last 86,400 minutes", &[(0, 4_294_967_294), (4_294_880_895, 86_400)]),
+        join(86_400, "86,400 minutes about 2,147,483,648", &[(0, 2_147_526_848), (2_147_440_448, 86_400)]),
+        part(86_400, "86,399 minutes about 2,147,483,648", &[(0, 2_147_526_847), (2_147_440_448, 86_400)]),
+    ]
+}
+
+/// Plan 12, so late that its last window ends at 4,294,967,295.
+const PLAN_12_LATE: [(u32, u32); 7] = [
+    (4_294_967_273, 10),
+    (4_294_967_275, 3),
+    (4_294_967_277, 12),
+    (4_294_967_282, 2),
+    (4_294_967_285, 6),
+    (4_294_967_290, 1),
+    (4_294_967_291, 4),
+];
+
+/// The three windows of above, as late.
+const THREE_LATE: [(u32, u32); 3] = [(4_294_967_276, 10), (4_294_967_280, 10), (4_294_967_285, 10)];
+
+/// Three windows over the whole line: the first and the second share 86,401 minutes, the second and the third 86,400, and
+/// 4,294,794,094 minutes lie between the first and the third.
+const THREE_WIDE: [(u32, u32); 3] = [(0, 86_801), (400, 4_294_966_895), (4_294_880_895, 86_400)];
+
+/// Q-8: what holds of a plan holds of it at the end of the line.
+fn late_plans() -> Vec<Case> {
+    let plan_12 = |name, says| case(name, &PLAN_12_LATE, says);
+    let three = |minimum, name, says| by(minimum, name, &THREE_LATE, says);
+    let wide = |minimum, name, says| by(minimum, name, &THREE_WIDE, says);
+    vec![
+        plan_12("plan 12 at the end: the listing", Lists(LISTING)),
+        plan_12("plan 12 at the end: 3 to 5 is 3, chain 5 4 2 3", Handovers(3, 5, 3, Some(&[5, 4, 2, 3]))),
+        plan_12("plan 12 at the end: 5 to 6, no chain", NoChain(5, 6)),
+        plan_12("plan 12 at the end: neighbours of 2", Neighbours(2, &[0, 1, 3, 4])),
+        plan_12("plan 12 at the end: reach 3, pair 0 and 5", Reach(0..6, 3, (0, 5))),
+        plan_12("plan 12 at the end: reach 0 of its last window", Reach(6..7, 0, (6, 6))),
+        plan_12("plan 12 at the end: margins", Margins(&MARGINS)),
+        plan_12("plan 12 at the end is the same as plan 12", Same(1, &PLAN_12)),
+        plan_12("plan 12 at the end is not the same as plan 12 made even", Different(1, &PLAN_12_EVEN)),
+        three(2, "three windows at the end, minimum 2: chain 2 1 0", Handovers(0, 2, 2, Some(&[2, 1, 0]))),
+        three(5, "three windows at the end, minimum 5: reach 2", Reach(0..3, 2, (0, 2))),
+        three(6, "three windows at the end, minimum 6: no chain", NoChain(0, 2)),
+        three(6, "three windows at the end, minimum 6: neighbours of 1", Neighbours(1, &[0])),
+        three(1, "three windows at the end, minimum 1: the same", Same(1, &THREE)),
+        three(2, "three windows at the end, minimum 2, and by 5: the same", Same(5, &THREE)),
+        three(1, "three windows at the end, minimum 1, and by 2: not the same", Different(2, &THREE)),
+        wide(86_400, "three over the line: the chain goes by the long one", Handovers(0, 2, 2, Some(&[2, 1, 0]))),
+        wide(86_400, "three over the line: reach 2", Reach(0..3, 2, (0, 2))),
+        wide(86_400, "three over the line: neighbours of the long one", Neighbours(1, &[0, 2])),
+        wide(86_400, "three over the line: margins", Margins(&[(0, 1, 86_401), (1, 2, 86_400), (0, 2, -4_294_794_094)])),
+        wide(86_400, "three over the line are the same as three in line", Same(5, &THREE)),
+    ]
+}
+
+/// Q-8: evenness goes by true ends.
+fn late_short_tags() -> Vec<Case> {
+    let joined = |minimum, name, windows: &[(u32, u32)]| by(minimum, name, windows, ShortTags(&[[12, 0, 0, 1], [12, 0, 1, 0]]));
+    let apart = |name, windows: &[(u32, u32)]| case(name, windows, ShortTags(&[[12, 0, 0, 0], [12, 1, 0, 0]]));
+    let falls = |minimum, name, windows: &[(u32, u32)]| by(minimum, name, windows, Falls(1));
+    let even = PLAN_12_EVEN.map(|(offset, length)| (offset + 4_294_967_273, length));
+    vec![
+        case("plan 12 made even, at the end: its short tags", &even, ShortTags(&SHORT_TAGS)),
+        case("plan 12 made even, at the end: 3 and 5 are 2 handovers", &even, ShortHandovers(3, 5, 2)),
+        case("plan 12 at the end: an end falls at position 1", &PLAN_12_LATE, Falls(1)),
+        falls(1, "4,294,967,295 and 4,294,967,294: an end falls", &[(4_294_967_290, 5), (4_294_967_291, 3)]),
+        falls(1, "the longest window and a minute less: an end falls", &[(0, 4_294_967_295), (1, 4_294_967_293)]),
+        falls(1, "the longest window and the first minute: an end falls", &[(0, 4_294_967_295), (0, 1)]),
+        falls(1, "2,147,483,648 and 2,147,483,647: an end falls", &[(0, 2_147_483_648), (1, 2_147_483_646)]),
+        joined(1, "4,294,967,295 twice does not fall", &[(4_294_967_290, 5), (4_294_967_291, 4)]),
+        joined(1, "4,294,967,294 and 4,294,967,295 rise", &[(4_294_967_290, 4), (4_294_967_291, 4)]),
+        joined(1, "the longest window and its last minute end together", &[(0, 4_294_967_295), (4_294_967_294, 1)]),
+        joined(1, "1 and 4,294,967,295 rise", &[(0, 1), (0, 4_294_967_295)]),
+        joined(1, "2,147,483,647 and 2,147,483,648 rise", &[(0, 2_147_483_647), (1, 2_147_483_647)]),
+        apart("the first minute and the last rise", &[(0, 1), (4_294_967_294, 1)]),
+        joined(86_400, "the last 86,400 minutes end with the longest window", &[(0, 4_294_967_295), (4_294_880_895, 86_400)]),
+        falls(86_400, "86,400 minutes end before the longest window", &[(0, 4_294_967_295), (4_294_880_894, 86_400)]),
+    ]
+}
+
+/// Q-8: "and so do margin, search and change": the extreme values of a margin, and those where 31 and 32 bits end.
+fn late_margins() -> Vec<Case> {
+    let two = |name, windows: &[(u32, u32)], due| case(name, windows, Margins(due));
+    let half = [(0, 2_147_483_649), (1, 2_147_483_649)];
+    vec![
+        two("the longest gap", &[(0, 1), (4_294_967_294, 1)], &[(0, 1, -4_294_967_293), (0, 0, 1), (1, 1, 1)]),
+        two("the longest window", &[(0, 4_294_967_295)], &[(0, 0, 4_294_967_295)]),
+        two("two of the longest window", &[(0, 4_294_967_295), (0, 4_294_967_295)], &[(0, 1, 4_294_967_295)]),
+        two("the longest window: its last minute", &[(0, 4_294_967_295), (4_294_967_294, 1)], &[(0, 1, 1)]),
+        two("the longest window: its first minute", &[(0, 1), (0, 4_294_967_295)], &[(0, 1, 1)]),
+        two("the longest two that touch", &[(0, 2_147_483_648), (2_147_483_648, 2_147_483_647)], &[(0, 1, 0)]),
+        two("the last two minutes touch", &[(4_294_967_293, 1), (4_294_967_294, 1)], &[(0, 1, 0)]),
+        two("a gap of a minute before the last", &[(4_294_967_292, 1), (4_294_967_294, 1)], &[(0, 1, -1)]),
+        two("a gap of 2,147,483,647 minutes", &[(0, 1), (2_147_483_648, 1)], &[(0, 1, -2_147_483_647)]),
+        two("a gap of 2,147,483,648 minutes", &[(0, 1), (2_147_483_649, 1)], &[(0, 1, -2_147_483_648)]),
+        two("a gap of 2,147,483,649 minutes", &[(0, 1), (2_147_483_650, 1)], &[(0, 1, -2_147_483_649)]),
+        two("2,147,483,648 minutes in common", &half, &[(0, 1, 2_147_483_648), (0, 0, 2_147_483_649)]),
+        two("a gap of 9,999,999 minutes", &[(0, 1), (10_000_000, 1)], &[(0, 1, -9_999_999)]),
+        by(86_400, "the first 86,400 minutes and the last", &[FIRST, LAST], Margins(&[(0, 1, -4_294_794_495), (1, 1, 86_400)])),
+    ]
+}
+
+/// The first 86,400 minutes that a plan can have.
+const FIRST: (u32, u32) = (0, 86_400);
+
+/// The last.
+const LAST: (u32, u32) = (4_294_880_895, 86_400);
+
+/// Q-8 of changes: a window that ends at 4,294,967,295 can be added, and goes behind all that begin before it or with it.
+fn late_changes() -> Vec<Case> {
+    const LONGEST: (u32, u32) = (0, 4_294_967_295);
+    const MINUTE: (u32, u32) = (4_294_967_294, 1);
+    let one = "13 1 1\n0 0 0 0 0 0\n";
+    let apart = "13 2 2\n0 0 0 0 0 0\n1 1 1 0 0 0\n";
+    let joined = "13 2 1\n0 0 0 0 1 0\n1 0 0 1 0 0\n";
+    let longest = adds(0, 4_294_967_295, 13);
+    let minute = adds(4_294_967_294, 1, 13);
+    let last = adds(4_294_880_895, 86_400, 13);
+    vec![
+        case("10,000,001 passes", &[(0, 10)], Becomes(adds(10_000_000, 1, 13), &[(0, 10), (10_000_000, 1)], apart)),
+        case("sum 4,294,967,295 passes", &[(0, 10)], Becomes(minute, &[(0, 10), MINUTE], apart)),
+        case("the last minute to the longest window", &[LONGEST], Becomes(minute, &[LONGEST, MINUTE], joined)),
+        case("the last minute to itself", &[MINUTE], Becomes(minute, &[MINUTE, MINUTE], joined)),
+        case("the last minute, where another ends", &[(1, 4_294_967_293)], Becomes(minute, &[(1, 4_294_967_293), MINUTE], apart)),
+        case("the longest window before all", &[MINUTE], Becomes(longest, &[LONGEST, MINUTE], joined)),
+        case("the longest window behind one at 0", &[(0, 10)], Becomes(longest, &[(0, 10), LONGEST], joined)),
+        case("the last minute withdrawn", &[LONGEST, MINUTE], Becomes(withdraws(1, 13), &[LONGEST], one)),
+        case("the longest window withdrawn", &[LONGEST, MINUTE], Becomes(withdraws(0, 13), &[MINUTE], one)),
+        by(86_400, "the last 86,400 minutes to the first", &[FIRST], Becomes(last, &[FIRST, LAST], apart)),
+        by(86_400, "the last 86,400 minutes to the longest", &[LONGEST], Becomes(last, &[LONGEST, LAST], joined)),
+        by(86_400, "the last 86,400 minutes to themselves", &[LAST], Becomes(last, &[LAST, LAST], joined)),
+    ]
+}
+
+/// Q-8: "the sum 4,294,967,296 is 5", of a window to add, after 15, 16 and 4.
+fn late_refused() -> Vec<Case> {
+    let plan_12 = |name, change, number| case(name, &PLAN_12, Stays(change, number));
+    let full = |name, change, number| case(name, &vec![(0, 1); 2048], Stays(change, number));
+    let by_5 = |name, change, number| by(5, name, &TWO, Stays(change, number));
+    vec![
+        plan_12("add: sum 4,294,967,296 is 5, a late window", adds(4_294_967_295, 1, 13), 5),
+        plan_12("add: sum 4,294,967,296 is 5, a long window", adds(1, 4_294_967_295, 13), 5),
+        plan_12("add: sum 4,294,967,296 is 5, one in the middle", adds(2_147_483_648, 2_147_483_648, 13), 5),
+        plan_12("add: 4,294,967,295 twice is 5", adds(4_294_967_295, 4_294_967_295, 13), 5),
+        plan_12("add: (4,294,967,295, 6) is 5", adds(4_294_967_295, 6, 13), 5),
+        plan_12("add: length 0 and offset 4,294,967,295 is 4", adds(4_294_967_295, 0, 13), 4),
+        plan_12("add: the old plan number, and the sum 4,294,967,296: 16", adds(4_294_967_295, 1, 12), 16),
+        full("add: 2,048 windows, and the sum 4,294,967,296: 15", adds(4_294_967_295, 1, 13), 15),
+        by_5("add: length 4, minimum 5, and the sum 4,294,967,296: 4", adds(4_294_967_292, 4, 13), 4),
+        by_5("add: length 5, minimum 5, and the sum 4,294,967,296: 5", adds(4_294_967_291, 5, 13), 5),
+        by(86_400, "add: 86,400 minutes up to 4,294,967,296 are 5", &[], Stays(adds(4_294_880_896, 86_400, 13), 5)),
+        by(86_400, "add: 86,399 minutes up to 4,294,967,296 are 4", &[], Stays(adds(4_294_880_897, 86_399, 13), 4)),
     ]
 }
 

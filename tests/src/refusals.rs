@@ -5,7 +5,7 @@ use crate::compare::{Comparison, Depth};
 use crate::forms::{Form, FORMS};
 use crate::oracle::{tag_bytes, Change, Changed, Columns, What};
 use crate::paper::{PLAN_12, PLAN_12_EVEN};
-use crate::shapes::{file_of, lengthened, old_file_of, windows_in};
+use crate::shapes::{at_the_end, file_of, lengthened, old_file_of, too_long, windows_in, LATEST};
 
 /// A file that is refused: by which question, and at which position.
 struct Faulty {
@@ -41,7 +41,7 @@ fn faulty_headers() -> Vec<Faulty> {
         let minimums = [1, 86_400].into_iter().chain(NO_MINIMUMS);
         all.extend(minimums.map(|minimum| faulty(2, 0, &headed(n, minimum, bytes))));
     }
-    for last in [(5, 0), (10_000_000, 1), (4, 1)] {
+    for last in [(5, 0), (LATEST, 1), (4, 1)] {
         let windows = [vec![(5, 1); 2048], vec![last]].concat();
         all.push(faulty(2, 0, &file_of(12, 1, &windows)));
     }
@@ -64,10 +64,11 @@ fn sound(minimum: u32) -> [(u32, u32); 4] {
 fn faulty_windows(minimum: u32, position: usize) -> Vec<(u16, (u32, u32))> {
     let (offset, length) = sound(minimum)[position];
     let short = minimum - 1;
-    let mut windows = vec![(4, (offset, short)), (4, (offset, 0)), (5, (offset, 10_000_001 - offset)), (4, (10_000_001, short))];
+    let mut windows = vec![(4, (offset, short)), (4, (offset, 0)), (5, (offset, too_long(offset))), (4, (LATEST, short))];
+    windows.extend([(5, (LATEST - minimum + 1, minimum)), (5, (LATEST, minimum + 4)), (5, (LATEST, LATEST))]);
     if position > 0 {
         let fallen = sound(minimum)[position - 1].0 - 1;
-        windows.extend([(6, (fallen, length)), (4, (fallen, short)), (5, (fallen, 10_000_001 - fallen))]);
+        windows.extend([(6, (fallen, length)), (4, (fallen, short)), (5, (fallen, too_long(fallen)))]);
     }
     windows
 }
@@ -191,25 +192,27 @@ pub fn two_files(comparison: &mut Comparison) {
     }
 }
 
-/// The sound windows, made so long that all end at minute 100, but that at each of some positions the end falls by one.
-fn falling_at(positions: &[usize]) -> [(u32, u32); 4] {
+/// The sound windows, later by so many minutes and made so long that all end 100 minutes behind that, but that at each of some
+/// positions the end falls by one.
+fn falling_at(positions: &[usize], later: u32) -> [(u32, u32); 4] {
     [0, 1, 2, 3].map(|v| {
         let falls = positions.iter().filter(|&&at| at <= v).count() as u32;
         let offset = sound(5)[v].0;
-        (offset, 100 - falls - offset)
+        (later + offset, 100 - falls - offset)
     })
 }
 
 /// Question 13, alone and twice, whatever the room is; and with any of 14 and 3 to 6, at whichever window that is, which come first.
+/// It is asked of ends near the first minute, about 2^31 and near the last.
 pub fn falling_ends(comparison: &mut Comparison) {
     let falls: [&[usize]; 7] = [&[1], &[2], &[3], &[1, 2], &[1, 3], &[2, 3], &[1, 2, 3]];
-    for falls in falls {
-        let windows = falling_at(falls);
+    for (falls, later) in falls.into_iter().flat_map(|falls| [0, (1 << 31) - 100, LATEST - 100].map(|later| (falls, later))) {
+        let windows = falling_at(falls, later);
         let file = file_of(12, 5, &windows);
         comparison.validate(&file).agree(format_args!("validate of falling ends"));
         let mut refuses = |file: &[u8], number: u16, position: usize| {
             for room in [0, 31, 32, 33] {
-                let what = format_args!("short tags of ends that fall at {falls:?}, room for {room}");
+                let what = format_args!("short tags of ends that fall at {falls:?}, {later} minutes later, room for {room}");
                 let refused = Answer::Refused(refusal(number, 0, position));
                 comparison.tag_file(Form::Short, file, room).are(what, refused, &vec![]);
             }
@@ -230,20 +233,22 @@ pub fn falling_ends(comparison: &mut Comparison) {
     }
 }
 
-/// Accepted plans: none, one, two that touch, two that overlap, plan 12, the same made even, and the same by a minimum of 5; two that
-/// share 5 minutes, by 5 and by 6.
+/// Accepted plans: none, one, two that touch, two that overlap, plan 12, the same made even, at the end of the line, and by a
+/// minimum of 5; two that share 5 minutes, by 5 and by 6; the longest window, and one that shares the greatest minimum with it.
 pub fn sound_plans() -> Vec<Vec<u8>> {
     let two = [(0, 10), (5, 10)];
-    let plans: [(u32, &[(u32, u32)]); 9] = [
+    let plans: [(u32, &[(u32, u32)]); 11] = [
         (1, &[]),
         (1, &[(5, 5)]),
         (1, &[(0, 10), (10, 5)]),
         (1, &[(5, 5), (5, 5)]),
         (1, &PLAN_12),
         (1, &PLAN_12_EVEN),
+        (1, &at_the_end(&PLAN_12)),
         (5, &lengthened(&PLAN_12, 4)),
         (5, &two),
         (6, &two),
+        (86_400, &[(0, LATEST), (LATEST - 86_400, 86_400)]),
     ];
     plans.map(|(minimum, windows)| file_of(12, minimum, windows)).to_vec()
 }

@@ -2,7 +2,17 @@
 use crate::random::Random;
 
 /// The latest end that a window may have.
-pub const LATEST: u32 = 10_000_000;
+pub const LATEST: u32 = u32::MAX;
+
+/// The length by which a window ends a minute later than it may. One that begins at the first minute can have no such length.
+pub fn too_long(offset: u32) -> u32 {
+    LATEST - offset + 1
+}
+
+/// The true end, which 32 bits need not hold.
+fn end_of(window: &(u32, u32)) -> u64 {
+    window.0 as u64 + window.1 as u64
+}
 
 pub fn file_of(plan: u16, minimum: u32, windows: &[(u32, u32)]) -> Vec<u8> {
     let mut file = plan.to_le_bytes().to_vec();
@@ -85,6 +95,7 @@ pub fn between_others(windows: &[(u32, u32)]) -> Vec<(u32, u32)> {
 
 /// A list of lasts as a plan of any minimum, of which the offsets rise: a window shares the minimum or more with its last, and with
 /// the one behind that a minute less or nothing. `length` chooses from the shortest to the longest length for which that is so.
+/// Behind the last offset there is to be room for twice the minimum.
 pub fn realised(lasts: &[usize], minimum: u32, offsets: &[u32], length: &mut dyn FnMut(u32, u32) -> u32) -> Vec<(u32, u32)> {
     let window = |(u, &last): (usize, &usize)| {
         let shortest = offsets[last] - offsets[u] + minimum;
@@ -94,12 +105,24 @@ pub fn realised(lasts: &[usize], minimum: u32, offsets: &[u32], length: &mut dyn
     lasts.iter().enumerate().map(window).collect()
 }
 
-/// Every window longer by as much, and where one would end too late, all of them earlier. By a minimum that is greater by as
-/// much the same pairs overlap: two that shared the minimum share it again, and two that touched share a minute less.
+/// Every window longer by as much, and where one would end too late, all of them earlier. By a minimum that is greater by as much
+/// the same pairs overlap: two that shared the minimum share it again, and two that touched share a minute less. Of windows that
+/// would then begin before the first minute this is not said: they begin there, and are longer than `more` still.
 pub fn lengthened(windows: &[(u32, u32)], more: u32) -> Vec<(u32, u32)> {
-    let latest = windows.iter().map(|w| w.0 + w.1).max().unwrap_or(0);
-    let earlier = (latest + more).saturating_sub(LATEST);
-    windows.iter().map(|w| (w.0 - earlier, w.1 + more)).collect()
+    let latest = windows.iter().map(end_of).max().unwrap_or(0);
+    let earlier = (latest + more as u64).saturating_sub(LATEST as u64);
+    let window = |w: &(u32, u32)| {
+        let offset = (w.0 as u64).saturating_sub(earlier);
+        let end = (end_of(w) + more as u64 - earlier).max(offset + more as u64 + 1);
+        (offset as u32, (end - offset) as u32)
+    };
+    windows.iter().map(window).collect()
+}
+
+/// Every window later by as much, so that the last of them to end does so as late as a window may. The same pairs overlap.
+pub fn at_the_end(windows: &[(u32, u32)]) -> Vec<(u32, u32)> {
+    let later = windows.iter().map(|w| LATEST as u64 - end_of(w)).min().unwrap_or(0);
+    windows.iter().map(|w| (w.0 + later as u32, w.1)).collect()
 }
 
 /// The greatest minimum that a plan of these windows can have.
@@ -127,9 +150,9 @@ pub fn with_minimum(windows: Vec<(u32, u32)>, random: &mut Random) -> (u32, Vec<
 /// The same offsets and the same ends, with the ends in rising order: an even plan, in which at every minute as many windows
 /// are open as before.
 pub fn evened(windows: &[(u32, u32)]) -> Vec<(u32, u32)> {
-    let mut ends: Vec<u32> = windows.iter().map(|w| w.0 + w.1).collect();
+    let mut ends: Vec<u64> = windows.iter().map(end_of).collect();
     ends.sort_unstable();
-    windows.iter().zip(ends).map(|(w, end)| (w.0, end - w.0)).collect()
+    windows.iter().zip(ends).map(|(w, end)| (w.0, (end - w.0 as u64) as u32)).collect()
 }
 
 /// An even plan in which one window ends with the one ahead of it, or a minute before, where it can.
@@ -138,9 +161,8 @@ pub fn nearly_even(windows: &[(u32, u32)], minimum: u32, random: &mut Random) ->
     let n = windows.len() as u64;
     if n > 1 {
         let v = random.between(1, n - 1) as usize;
-        let ahead = windows[v - 1].0 + windows[v - 1].1;
-        let end = ahead - random.below(2) as u32;
-        windows[v].1 = end.saturating_sub(windows[v].0).max(minimum);
+        let end = end_of(&windows[v - 1]) - random.below(2);
+        windows[v].1 = (end.saturating_sub(windows[v].0 as u64) as u32).max(minimum);
     }
     windows
 }
@@ -155,9 +177,11 @@ pub enum Shape {
     Touching,
     Mixed,
     Far,
+    Wide,
+    Middle,
 }
 
-pub const SHAPES: [Shape; 8] = [
+pub const SHAPES: [Shape; 10] = [
     Shape::Sparse,
     Shape::Dense,
     Shape::Nested,
@@ -166,6 +190,8 @@ pub const SHAPES: [Shape; 8] = [
     Shape::Touching,
     Shape::Mixed,
     Shape::Far,
+    Shape::Wide,
+    Shape::Middle,
 ];
 
 pub fn windows(shape: Shape, n: usize, random: &mut Random) -> Vec<(u32, u32)> {
@@ -178,6 +204,8 @@ pub fn windows(shape: Shape, n: usize, random: &mut Random) -> Vec<(u32, u32)> {
         Shape::Touching => touching(n, random),
         Shape::Mixed => mixed(n, random),
         Shape::Far => far(n, random),
+        Shape::Wide => wide(n, random),
+        Shape::Middle => middle(n, random),
     })
 }
 
@@ -254,12 +282,48 @@ fn mixed(n: usize, random: &mut Random) -> Vec<(u64, u64)> {
     (0..n).map(|_| window(random)).collect()
 }
 
-/// Near the greatest end, 10,000,000.
+/// Near the greatest end, 4,294,967,295.
 fn far(n: usize, random: &mut Random) -> Vec<(u64, u64)> {
     let (latest, span) = (LATEST as u64, 2 * n as u64 + 10);
     let window = |random: &mut Random| {
         let offset = latest - 1 - random.below(span);
         (offset, random.between(1, (latest - offset).min(9)))
+    };
+    (0..n).map(|_| window(random)).collect()
+}
+
+/// Over the whole line: windows that begin at its first minute, among its last, about where another ends or anywhere; and that
+/// are short, any part of the line long, or so long that they end as late as a window may, in some plans half of them.
+fn wide(n: usize, random: &mut Random) -> Vec<(u64, u64)> {
+    let latest = LATEST as u64;
+    let (seldom, longest) = (random.pick(&[2, 8, 60]), latest >> random.below(13));
+    let mut ends: Vec<u64> = vec![1];
+    let mut windows = Vec::new();
+    for _ in 0..n {
+        let about = random.pick(&ends) + random.below(3) - 1;
+        let [last, any] = [latest - 1 - random.below(9), random.below(latest)];
+        let offset = random.pick(&[0, last, about, about, any, any, any, any]).min(latest - 1);
+        let length = match random.below(seldom) {
+            0 => latest - offset,
+            1 => random.between(1, 9),
+            _ => random.between(1, longest),
+        };
+        let length = length.min(latest - offset);
+        ends.push(offset + length);
+        windows.push((offset, length));
+    }
+    windows
+}
+
+/// About 10,000,000, which was the greatest end, and about 2^31, where a number of 32 bits with a sign ends. Some windows reach
+/// from the one to the other.
+fn middle(n: usize, random: &mut Random) -> Vec<(u64, u64)> {
+    let span = 2 * n as u64 + 10;
+    let places: [u64; 2] = [10_000_000, 1 << 31];
+    let window = |random: &mut Random| {
+        let offset = random.pick(&places) + random.below(span) - span / 2;
+        let end = if random.below(8) == 0 { places[1] + random.below(span) - span / 2 } else { 0 };
+        (offset, end.checked_sub(offset).filter(|&length| length > 0).unwrap_or(random.between(1, 9)))
     };
     (0..n).map(|_| window(random)).collect()
 }
