@@ -1,5 +1,5 @@
-/* Every call through include/poddreshi.h, on plan 12, and the figures that it names: nothing else holds the header's declarations
- * to the library. */
+/* Every call through include/poddreshi.h, on plan 12, the figures that it names and the latest ends: nothing else holds the
+ * header's declarations to the library. */
 #include <stdio.h>
 #include <stdlib.h>
 #include <string.h>
@@ -206,6 +206,60 @@ static void check_changes(void) {
     check(memcmp(less, empty, sizeof empty) == 0, "the plan with no window");
 }
 
+/* A plan of minimum 1 with two windows, each number in four bytes with the lowest first. */
+static void put_two(uint8_t plan[24], uint32_t offset, uint32_t length, uint32_t second_offset, uint32_t second_length) {
+    const uint32_t put[6] = {12 + 65536 * 2, 1, offset, length, second_offset, second_length};
+    int i;
+
+    for (i = 0; i < 24; i++) plan[i] = (uint8_t)(put[i / 4] >> (8 * (i % 4)));
+}
+
+/* Ends up to 4,294,967,295: the greatest of before and one more, the greatest now and one more, the extreme margins, and windows
+ * to add with the greatest sum and one more. */
+static void check_latest(void) {
+    static const uint8_t last[] = {254, 255, 255, 255, 1, 0, 0, 0};
+    uint8_t two[24], more[32], more_tags[30], short_tags[16];
+    int64_t number[3];
+
+    put_two(two, 0, 10000000, 10000000, 1);
+    check(is(poddreshi_validate(two, sizeof two), PODDRESHI_ACCEPTED, 12, 2, 0), "an end at 10,000,001");
+    check(is(poddreshi_neighbours(two, sizeof two, 0, out, 7), PODDRESHI_NEIGHBOURS, 0, 0, 0), "two that touch at 10,000,000");
+    put_two(two, 0, 10000001, 10000000, 1);
+    check(is(poddreshi_neighbours(two, sizeof two, 0, out, 7), PODDRESHI_NEIGHBOURS, 1, 0, 0), "two that share 10,000,000");
+
+    memset(more, PAINT, sizeof more);
+    memset(more_tags, PAINT, sizeof more_tags);
+    memset(short_tags, PAINT, sizeof short_tags);
+    memset(number, PAINT, sizeof number);
+    put_two(two, 0, 1, 4294967295u, 1);
+    check(refused(poddreshi_validate(two, sizeof two), 5, 0, 1), "the sum 4,294,967,296");
+    check(refused(poddreshi_margin(two, sizeof two, 0, 1, number), 5, 0, 1), "margin, the sum 4,294,967,296");
+    check(refused(poddreshi_tags(two, sizeof two, more_tags, 20), 5, 0, 1), "tags, the sum 4,294,967,296");
+    check(refused(poddreshi_short_tags(two, sizeof two, short_tags, 16), 5, 0, 1), "short tags, the sum 4,294,967,296");
+    put_two(two, 1, 4294967295u, 4294967295u, 4294967295u);
+    check(refused(poddreshi_validate(two, sizeof two), 5, 0, 0), "a long window, the sum 4,294,967,296");
+    put_two(two, 0, 4294967295u, 4294967294u, 0);
+    check(refused(poddreshi_validate(two, sizeof two), 4, 0, 1), "no length at the end of the line");
+    put_two(two, 0, 4294967295u, 1, 4294967293u);
+    check(refused(poddreshi_short_tags(two, sizeof two, short_tags, 16), 13, 0, 1), "an end that falls to 4,294,967,294");
+
+    put_two(two, 0, 1, 4294967294u, 1);
+    check(refused(poddreshi_add(two, sizeof two, 13, 4294967295u, 1, more, 32, more_tags, 30), 5, 0, 0), "add a window too late");
+    check(refused(poddreshi_add(two, sizeof two, 13, 1, 4294967295u, more, 32, more_tags, 30), 5, 0, 0), "add a window too long");
+    check(refused(poddreshi_add(two, sizeof two, 12, 4294967295u, 1, more, 32, more_tags, 30), 16, 0, 0), "16 before 5");
+    check(painted(more, sizeof more) && painted(more_tags, sizeof more_tags), "what an addition refused by its sum leaves");
+    check(painted((const uint8_t *)number, sizeof number) && painted(short_tags, sizeof short_tags), "what a late end leaves");
+    check(is(poddreshi_margin(two, sizeof two, 0, 1, number), PODDRESHI_MARGIN, 0, 0, 0), "the least margin");
+    check(is(poddreshi_add(two, sizeof two, 13, 4294967294u, 1, more, 32, more_tags, 30), PODDRESHI_BUILT, 13, 3, 2),
+          "add, the sum 4,294,967,295");
+    check(memcmp(more + 16, last, 8) == 0 && memcmp(more + 24, last, 8) == 0, "the last minute twice");
+    put_two(two, 0, 4294967295u, 4294967294u, 1);
+    check(is(poddreshi_short_tags(two, sizeof two, short_tags, 16), PODDRESHI_BUILT, 12, 2, 1), "ends that are equal");
+    check(is(poddreshi_margin(two, sizeof two, 0, 0, number + 1), PODDRESHI_MARGIN, 0, 0, 0), "the greatest margin");
+    check(is(poddreshi_margin(two, sizeof two, 1, 0, number + 2), PODDRESHI_MARGIN, 0, 0, 0), "the margin of the last minute");
+    check(number[0] == -4294967293 && number[1] == 4294967295 && number[2] == 1, "margins at the end of the line");
+}
+
 /* The figures are where the library's answers change. */
 static void check_figures(void) {
     static uint8_t longest[PODDRESHI_FILE_LIMIT], changed[PODDRESHI_FILE_LIMIT];
@@ -276,8 +330,9 @@ int main(void) {
     check_short();
     check_figures();
     check_minimum();
+    check_latest();
     file[8 + 8 * 3] = 1;
     check(refused(poddreshi_validate(file, sizeof file), 6, 0, 3), "a falling offset");
-    puts("header: every call on plan 12, every figure and the minimum as they should be");
+    puts("header: every call on plan 12, every figure, the minimum and the latest ends as they should be");
     return 0;
 }
