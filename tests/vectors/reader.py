@@ -45,7 +45,7 @@ class Reader:
         return length >= minimum
 
     def question_5(self, offset, length):
-        return offset + length <= 10_000_000
+        return offset + length <= 4_294_967_295
 
     def question_6(self, offset, before):
         return offset >= before
@@ -362,21 +362,21 @@ class Reader:
         beside = self.beside(plan)
         return self.greatest(self.counts(beside, self.members(beside, at)))
 
-    # Margins, by minutes that are counted.
+    # Margins, by units that are counted, in whole runs.
 
-    def covers(self, plan, v, minute):
-        return plan.offsets[v] <= minute < plan.ends[v]
+    def covers(self, plan, v, unit):
+        return plan.offsets[v] <= unit < plan.ends[v]
 
     def runs(self, plan, u, v):
-        """The minutes from the first that one of two windows covers to the last, in runs that each of them covers whole or not at
+        """The units from the first that one of two windows covers to the last, in runs that each of them covers whole or not at
         all: how long a run is, and how many of the two cover it."""
         cuts = sorted({plan.offsets[u], plan.ends[u], plan.offsets[v], plan.ends[v]})
         return [(stop - start, self.covers(plan, u, start) + self.covers(plan, v, start)) for start, stop in zip(cuts, cuts[1:])]
 
     def margin_of(self, plan, u, v):
-        """The minutes that both cover, or, below 0, those between them, which neither does. There are not both."""
+        """The units that both cover, or, below 0, those between them, which neither does. There are not both."""
         runs = self.runs(plan, u, v)
-        shared, between = (sum(minutes for minutes, covering in runs if covering == count) for count in (2, 0))
+        shared, between = (sum(units for units, covering in runs if covering == count) for count in (2, 0))
         return shared - between
 
     # A change.

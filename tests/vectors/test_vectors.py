@@ -62,6 +62,11 @@ def table(*headings):
         rows.append([cell.strip() for cell in line.strip("|").split("|")])
 
 
+def whole(cell):
+    """The number of a cell, with its sign and without the commas between its digits."""
+    return int(cell.replace("−", "-").replace(",", ""))
+
+
 def blocks():
     """The lines of the fenced blocks of the document."""
     return [line for block in DOCUMENT.split("```")[1::2] for line in block.strip("\n").split("\n")]
@@ -74,7 +79,7 @@ def answered(call):
 
 # The plan files and tag files that the fenced blocks show, in order, and how many lines each of them has.
 SHOWN = {
-    "plan 12": 8, "two windows": 3, "plan 16": 6, "tags of plan 12": 7, "plan 14": 9, "short tags of plan 14": 8,
+    "plan 12": 8, "two windows": 3, "plan 16": 6, "plan 17": 5, "tags of plan 12": 7, "plan 14": 9, "short tags of plan 14": 8,
     "plan 13": 9, "tags of plan 13": 8, "plan 15": 7, "tags of plan 15": 6,
 }
 
@@ -182,9 +187,9 @@ class Document(unittest.TestCase):
 
     def test_the_margins_that_it_works_out_are_those_of_the_vectors(self):
         stored = answered("margin")
-        for file in octets("plan 12", "plan 16"):
+        for file in octets("plan 12", "plan 16", "plan 17"):
             positions = range(struct.unpack_from("<H", file, 2)[0])
-            shown = [[int(cell.replace("−", "-")) for cell in row] for row in table("margin", *map(str, positions))]
+            shown = [list(map(whole, row)) for row in table("margin", *map(str, positions))]
             self.assertEqual(shown, [[u, *(stored[file, u, v] for v in positions)] for u in positions])
 
     def test_windows_overlap_just_when_their_margin_reaches_the_minimum(self):
@@ -197,6 +202,29 @@ class Document(unittest.TestCase):
                 self.assertEqual(overlap, margin >= struct.unpack_from("<I", file, 4)[0], (file.hex(), first, second))
                 compared[overlap, margin > 0] += 1
         self.assertGreaterEqual(min(compared[kind] for kind in ((True, True), (False, True), (False, False))), 5)
+
+    def test_plan_17_is_the_one_of_the_vectors(self):
+        """With the answers that the document names, of the plan whose windows lie at the last end."""
+        (file,) = octets("plan 17")
+        rows = table("position", "offset", "length", "end", "parent", "last", "component", "depth", "rank", "rank of the last")
+        numbers = [list(map(whole, row)) for row in rows]
+        positions, offsets, lengths, ends, parents, lasts, components, depths, ranks, last_ranks = map(list, zip(*numbers))
+        self.assertEqual(positions, list(range(4)))
+        self.assertEqual(list(zip(offsets, lengths)), list(struct.iter_unpack("<II", file[8:])))
+        self.assertEqual(ends, [offset + length for offset, length in zip(offsets, lengths)])
+        self.assertEqual(max(ends), 2**32 - 1)
+        tags = bytes_of_rows((17, *row) for row in zip(components, depths, ranks, last_ranks))
+        short = bytes_of_rows((17, *row) for row in zip(components, depths, ranks))
+        stored = [(vector.call, vector.arguments[1:], vector.answer) for vector in VECTORS if vector.arguments[0] == file]
+        for due in (
+            ("build", (4, 4, 4, 4, 4, 40), ("built", 17, 4, 1, parents, components, depths, ranks, last_ranks, tags)),
+            ("lasts", (4,), ("filled", lasts)),
+            ("short_tags", (32,), ("built", 17, 4, 1, short)),
+            ("chain", (0, 3, 4), ("chain", [3, 1, 0])),
+            ("add", (18, 4_294_880_896, 86_400, 48, 50), ("refused", 5, 0, 0)),
+            ("add", (18, 4_294_880_896, 86_399, 48, 50), ("refused", 4, 0, 0)),
+        ):
+            self.assertIn(due, stored)
 
     def test_plan_14_is_the_one_of_the_vectors(self):
         file, tags = octets("plan 14", "short tags of plan 14")

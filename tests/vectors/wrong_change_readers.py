@@ -142,20 +142,20 @@ def window(name, mistake, four=Reader.question_4, five=Reader.question_5, input=
 window("AddedFourAgainstOne", "4 of the added window asks for a length of at least 1", lambda self, length, minimum: length >= 1)
 window("AddedLongerThanTheMinimum", "4 of the added window asks for more than the minimum",
        lambda self, length, minimum: length > minimum)
-window("AddedOneMinuteShorter", "4 lets an added window pass that is a minute shorter than the minimum",
+window("AddedOneShorter", "4 lets an added window pass that is one shorter than the minimum",
        lambda self, length, minimum: length + 1 >= minimum and length > 0)
 window("AddedFourIn16Bits", "4 of the added window compares in 16 bits",
        lambda self, length, minimum: length > 0 and length % 2**16 >= minimum % 2**16)
-window("AddedEndBelowLimit", "5 of the added window asks for an end below 10,000,000",
-       five=lambda self, offset, length: offset + length < 10_000_000)
-window("AddedEndPastLimit", "5 lets an added window pass that ends at 10,000,001",
-       five=lambda self, offset, length: offset + length <= 10_000_001)
+window("AddedEndBelowLimit", "5 of the added window asks for an end below 4,294,967,295",
+       five=lambda self, offset, length: offset + length < 4_294_967_295)
+window("AddedEndPastLimit", "5 lets an added window pass that ends at 4,294,967,296",
+       five=lambda self, offset, length: offset + length <= 4_294_967_296)
 window("AddedSumIn32Bits", "the sum of 5 in 32 bits, for the added window",
-       five=lambda self, offset, length: (offset + length) % 2**32 <= 10_000_000)
+       five=lambda self, offset, length: (offset + length) % 2**32 <= 4_294_967_295)
 window("AddedFiveOfTheOffset", "5 asked of the offset of the added window alone",
-       five=lambda self, offset, length: offset <= 10_000_000)
+       five=lambda self, offset, length: offset <= 4_294_967_295)
 window("AddedFiveOfEachNumber", "5 asked of the offset and of the length of the added window, not of their sum",
-       five=lambda self, offset, length: max(offset, length) <= 10_000_000)
+       five=lambda self, offset, length: max(offset, length) <= 4_294_967_295)
 window("AddedOfInputOne", "4 and 5 of the added window have input 1", input=1)
 window("AddedFourAtItsPlace", "4 of the added window has the position where it would stand", at_four=Reader.place)
 window("AddedFiveAtItsPlace", "5 of the added window has the position where it would stand", at_five=Reader.place)
@@ -305,9 +305,9 @@ writing("FileWithoutMinimum", "the changed file written without a minimum, as be
         lambda file, old: file[:4] + file[8:])
 writing("NumbersTurnedRound", "the number of windows written before the plan number",
         lambda file, old: file[2:4] + file[:2] + file[4:])
-writing("MinutesHighestFirst", "offsets and lengths of the changed file written highest byte first",
+writing("WindowsHighestFirst", "offsets and lengths of the changed file written highest byte first",
         lambda file, old: file[:8] + b"".join(file[at : at + 4][::-1] for at in range(8, len(file), 4)))
-writing("MinutesIn16Bits", "offsets and lengths of the changed file written in their two low bytes",
+writing("WindowsIn16Bits", "offsets and lengths of the changed file written in their two low bytes",
         lambda file, old: file[:8] + b"".join(file[at : at + 2] + bytes(2) for at in range(8, len(file), 4)))
 wrong("LengthsBeforeOffsets", "the changed file written with each length before its offset",
       plan_file=lambda self, plan: Reader.plan_file(self, plan._replace(offsets=plan.lengths, lengths=plan.offsets)))

@@ -1,7 +1,7 @@
 """Wrong readers of a margin, beside those of wrong_readers.py and of the same kind: the right one with one mistake each.
 
-Mistakes that no vector can show are not here: the two lengths added, less what lies from the smaller offset to the greater end
-(that is the margin); a margin kept in 32 bits with a sign (an end is at most 10,000,000).
+A mistake that no vector can show is not here: the two lengths added, less what lies from the smaller offset to the greater end
+(that is the margin).
 """
 from reader import Reader, Refused
 from wrong_change_readers import WRONG, InTurn
@@ -36,7 +36,7 @@ made("EndsApart", "what lies between the ends for the margin", lambda a, b, c, d
 made("ShorterLessOffsets", "the smaller length less what lies between the offsets",
      lambda a, b, c, d: min(b - a, d - c) - abs(a - c))
 made("LengthsForEnds", "the smaller length less the greater offset", lambda a, b, c, d: min(b - a, d - c) - max(a, c))
-made("ShorterShared", "the smaller length where minutes are shared, as if one window lay in the other",
+made("ShorterShared", "the smaller length where units are shared, as if one window lay in the other",
      lambda a, b, c, d: min(b - a, d - c) if max(a, c) < min(b, d) else min(b, d) - max(a, c))
 wrong("EarlierToLater", "the end of the window of smaller position less the offset of the other",
       margin_of=lambda self, plan, u, v: plan.ends[min(u, v)] - plan.offsets[max(u, v)])
@@ -52,16 +52,16 @@ def altered(name, mistake, change):
 altered("GapWithoutSign", "a gap given without its sign", abs)
 altered("GapAsZero", "a gap given as 0", lambda margin: max(margin, 0))
 altered("GapAsOne", "every gap given as -1", lambda margin: max(margin, -1))
-altered("SharedAsZero", "shared minutes given as 0", lambda margin: min(margin, 0))
-altered("SharedAsOne", "shared minutes given as 1", lambda margin: min(margin, 1))
-altered("MarginLessOne", "a minute less, as if a window ended with the last minute that it covers", lambda margin: margin - 1)
-altered("MarginPlusOne", "a minute more, as if a window covered its end", lambda margin: margin + 1)
-altered("SharedLessOne", "shared minutes less one", lambda margin: margin - (margin > 0))
-altered("SharedPlusOne", "shared minutes and one more", lambda margin: margin + (margin > 0))
-altered("GapPlusOne", "a gap and a minute more", lambda margin: margin - (margin < 0))
-altered("GapLessOne", "a gap less a minute", lambda margin: margin + (margin < 0))
-altered("TouchingShares", "a shared minute given to windows that touch", lambda margin: margin or 1)
-altered("TouchingLiesApart", "a gap of a minute given to windows that touch", lambda margin: margin or -1)
+altered("SharedAsZero", "shared units given as 0", lambda margin: min(margin, 0))
+altered("SharedAsOne", "shared units given as 1", lambda margin: min(margin, 1))
+altered("MarginLessOne", "a unit less, as if a window ended with the last unit that it covers", lambda margin: margin - 1)
+altered("MarginPlusOne", "a unit more, as if a window covered its end", lambda margin: margin + 1)
+altered("SharedLessOne", "shared units less one", lambda margin: margin - (margin > 0))
+altered("SharedPlusOne", "shared units and one more", lambda margin: margin + (margin > 0))
+altered("GapPlusOne", "a gap and a unit more", lambda margin: margin - (margin < 0))
+altered("GapLessOne", "a gap less a unit", lambda margin: margin + (margin < 0))
+altered("TouchingShares", "a shared unit given to windows that touch", lambda margin: margin or 1)
+altered("TouchingLiesApart", "a gap of a unit given to windows that touch", lambda margin: margin or -1)
 
 
 def kept(name, mistake, bits, lowest=0):
@@ -104,7 +104,7 @@ def but_for(name, mistake, asked, margin):
 
 but_for("ItselfAsZero", "a window with itself given 0", lambda plan, u, v: u == v, lambda self, plan, u: 0)
 but_for("ItselfAsItsEnd", "a window with itself given its end", lambda plan, u, v: u == v, lambda self, plan, u: plan.ends[u])
-but_for("EqualAsZero", "two windows of equal minutes given 0, as if they were one",
+but_for("EqualAsZero", "two equal windows given 0, as if they were one",
         lambda plan, u, v: u != v and (plan.offsets[u], plan.ends[u]) == (plan.offsets[v], plan.ends[v]),
         lambda self, plan, u: 0)
 wrong("SignOfTheOrder", "the sign turned round where the second position is the smaller",
@@ -112,7 +112,7 @@ wrong("SignOfTheOrder", "the sign turned round where the second position is the 
 
 
 class BesideOthers(Reader):
-    """In a margin of this sign, minutes that a third window covers do not count."""
+    """In a margin of this sign, units that a third window covers do not count."""
 
     SIGN = 1
 
@@ -126,8 +126,8 @@ class BesideOthers(Reader):
         return self.SIGN * sum(b - a for a, b in zip(cuts, cuts[1:]) if not any(a in one for one in others))
 
 
-wrong("GapBesideOthers", "of a gap only the minutes that no window covers", BesideOthers, SIGN=-1)
-wrong("SharedBesideOthers", "of shared minutes only those that no third window covers", BesideOthers)
+wrong("GapBesideOthers", "of a gap only the units that no window covers", BesideOthers, SIGN=-1)
+wrong("SharedBesideOthers", "of shared units only those that no third window covers", BesideOthers)
 
 # The minimum.
 
@@ -139,9 +139,9 @@ def by_minimum(name, mistake, change):
 
 by_minimum("LessTheMinimum", "the margin less the minimum", lambda margin, minimum: margin - minimum)
 by_minimum("LessWhatIsAboveOne", "the margin less what the minimum has above 1", lambda margin, minimum: margin - minimum + 1)
-by_minimum("TooFewAsZero", "shared minutes below the minimum given as 0, since the windows do not overlap",
+by_minimum("TooFewAsZero", "shared units below the minimum given as 0, since the windows do not overlap",
            lambda margin, minimum: 0 if 0 < margin < minimum else margin)
-by_minimum("TooFewAsAGap", "shared minutes below the minimum given as those that are missing, below 0",
+by_minimum("TooFewAsAGap", "shared units below the minimum given as those that are missing, below 0",
            lambda margin, minimum: margin - minimum if 0 < margin < minimum else margin)
 by_minimum("HeldToTheMinimum", "the margin held to the minimum", min)
 wrong("MarginAlongAChain", "two windows that no chain joins given 0",

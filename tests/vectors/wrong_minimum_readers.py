@@ -1,10 +1,10 @@
 """Wrong readers of the minimum handover, beside those of wrong_readers.py and of the same kind: the right one with one mistake
 each.
 
-Mistakes that no vector can show are not here: the shared minutes counted up to the end of u alone (in an accepted plan every
+Mistakes that no vector can show are not here: the shared units counted up to the end of u alone (in an accepted plan every
 window is at least as long as the minimum, so the end of the later one decides nothing); the minimum less one taken from every
-length before windows are asked for a shared minute, which is the same question; 13 asked only of windows that overlap (one that
-ends before the window ahead of it lies in that, and shares all its minutes with it).
+length before windows are asked for a shared unit, which is the same question; 13 asked only of windows that overlap (one that
+ends before the window ahead of it lies in that, and shares all its units with it).
 """
 from reader import Reader
 from wrong_readers import InRounds, comparing, mistaken, refusing, wrong
@@ -93,7 +93,7 @@ limited("UpTo86401", "14 lets 86,401 pass", lambda minimum: 1 <= minimum <= 86_4
 limited("Below86400", "14 refuses 86,400", lambda minimum: 1 <= minimum < 86_400)
 limited("UpToADay", "14 lets a day of minutes pass and no more", lambda minimum: 1 <= minimum <= 1_440)
 limited("UpToTwoBytes", "14 lets 65,535 pass and no more", lambda minimum: 1 <= minimum <= 65_535)
-limited("UpToTheEnds", "14 lets pass what an end may be", lambda minimum: 1 <= minimum <= 10_000_000)
+limited("UpToTheOldEnds", "14 lets pass what an end could be up to revision 8", lambda minimum: 1 <= minimum <= 10_000_000)
 limited("UpToTheWindows", "14 asks for at most 2,048", lambda minimum: 1 <= minimum <= 2_048)
 limited("FourteenIn16Bits", "14 compares in 16 bits", lambda minimum: 1 <= minimum % 2**16 <= 86_400)
 wrong("ZeroForOne", "14 lets 0 pass, which is taken as 1", question_14=lambda self, minimum: minimum <= 86_400,
@@ -155,7 +155,7 @@ def lengths(name, mistake, question):
 
 
 lengths("FourAgainstOne", "4 asks for a length of at least 1", lambda length, minimum: length >= 1)
-lengths("OneMinuteShorter", "4 lets a window pass that is a minute shorter than the minimum",
+lengths("OneUnitShorter", "4 lets a window pass that is a unit shorter than the minimum",
         lambda length, minimum: length + 1 >= minimum and length > 0)
 lengths("FourTwiceTheMinimum", "4 asks for twice the minimum, a handover at either end",
         lambda length, minimum: length >= (2 * minimum if minimum > 1 else 1))
@@ -209,10 +209,10 @@ def overlapping(name, mistake, overlap):
         plan.minimum, plan.offsets[u], plan.ends[u], plan.offsets[v], plan.ends[v]))
 
 
-overlapping("MinimumIgnored", "windows that share a minute taken as overlapping", lambda m, a, b, c, d: c < b)
+overlapping("MinimumIgnored", "windows that share a unit taken as overlapping", lambda m, a, b, c, d: c < b)
 overlapping("MoreThanTheMinimum", "windows that share just the minimum taken as not overlapping",
             lambda m, a, b, c, d: c + m < b)
-overlapping("OneMinuteLessThanTheMinimum", "windows that share a minute less than the minimum taken as overlapping",
+overlapping("OneUnitLessThanTheMinimum", "windows that share a unit less than the minimum taken as overlapping",
             lambda m, a, b, c, d: c + max(m - 1, 1) <= b)
 overlapping("WrapsBelowZero", "the end of u less the offset of v taken without a sign, so that windows apart share very much",
             lambda m, a, b, c, d: (b - c) % 2**32 >= m)
@@ -243,20 +243,20 @@ def heedless(plan):
     return plan._replace(minimum=1)
 
 
-wrong("ParentsByAMinute", "parents by shared minutes, lasts by the minimum",
+wrong("ParentsByAUnit", "parents by shared units, lasts by the minimum",
       parent=lambda self, plan, v: Reader.parent(self, heedless(plan), v))
-wrong("LastsByAMinute", "lasts by shared minutes, parents by the minimum",
+wrong("LastsByAUnit", "lasts by shared units, parents by the minimum",
       last=lambda self, plan, u: Reader.last(self, heedless(plan), u))
-wrong("ChainsByAMinute", "chains and neighbours by shared minutes",
+wrong("ChainsByAUnit", "chains and neighbours by shared units",
       overlapping=lambda self, plan, u, v: Reader.overlapping(self, heedless(plan), u, v))
-wrong("ComponentsByAMinute", "components by shared minutes",
+wrong("ComponentsByAUnit", "components by shared units",
       tree=lambda self, plan: Reader.tree(self, plan)._replace(components=Reader.tree(self, heedless(plan)).components))
-wrong("DepthsByAMinute", "depths by shared minutes",
+wrong("DepthsByAUnit", "depths by shared units",
       tree=lambda self, plan: Reader.tree(self, plan)._replace(depths=Reader.tree(self, heedless(plan)).depths))
 
 
 class Heedless(Reader):
-    """Windows that share a minute taken as overlapping, once the questions are asked."""
+    """Windows that share a unit taken as overlapping, once the questions are asked."""
 
     def overlap(self, plan, u, v):
         return super().overlap(heedless(plan), u, v)
@@ -277,7 +277,7 @@ comparing("MinimumOfTheSecond", "sameness by the minimum of the second plan for 
 comparing("GreaterMinimum", "sameness by the greater minimum for both",
           lambda self, a, b: self.last_table(a._replace(minimum=max(a.minimum, b.minimum)))
           == self.last_table(b._replace(minimum=max(a.minimum, b.minimum))))
-comparing("SameWindowsAlone", "windows of equal minutes called the same whatever the minimums",
+comparing("SameWindowsAlone", "equal windows called the same whatever the minimums",
           lambda self, a, b: (a.offsets, a.lengths) == (b.offsets, b.lengths) or self.last_table(a) == self.last_table(b))
 wrong("FourOfTheFirstMinimum", "4 of the second file asked against the minimum of the first",
       same=lambda self, first, second: Reader.same(

@@ -207,14 +207,14 @@ class MoreThanTheMinimumInReach(Reader):
         return super().farthest(plan._replace(minimum=plan.minimum + 1), at)
 
 
-@mistaken("components by shared minutes, and handovers by the minimum")
-class MembersByAMinute(OfSomeTwo):
+@mistaken("components by shared units, and handovers by the minimum")
+class MembersByAUnit(OfSomeTwo):
     def farthest(self, plan, at):
         return self.greatest(self.counts(self.beside(plan), self.members(self.beside(heedless(plan)), at)))
 
 
-@mistaken("components by the minimum, and handovers by shared minutes")
-class CountsByAMinute(Reader):
+@mistaken("components by the minimum, and handovers by shared units")
+class CountsByAUnit(Reader):
     def farthest(self, plan, at):
         return self.greatest(self.counts(self.beside(heedless(plan)), self.members(self.beside(plan), at)))
 

@@ -32,9 +32,9 @@ wrong("HighestByteFirst", "numbers read highest byte first", number=lambda self,
 wrong("WrittenHighestByteFirst", "tags written highest byte first", two_bytes=lambda self, number: number.to_bytes(2, "big"))
 wrong("HalvesSwapped", "four-byte numbers read as two halves, the high one first",
       number=lambda self, part: int.from_bytes(part[2:] + part[:2] if len(part) == 4 else part, "little"))
-wrong("SixteenBitMinutes", "offsets and lengths read from their two low bytes",
+wrong("SixteenBitNumbers", "offsets and lengths read from their two low bytes",
       number=lambda self, part: int.from_bytes(part[:2], "little"))
-wrong("SignedMinutes", "offsets and lengths read as signed numbers",
+wrong("SignedNumbers", "offsets and lengths read as signed numbers",
       number=lambda self, part: int.from_bytes(part, "little", signed=len(part) == 4))
 wrong("SignedFields", "fields of a tag read as signed numbers",
       tag_fields=lambda self, tag: Tag(*(int.from_bytes(tag[at : at + 2], "little", signed=True) for at in range(0, 10, 2))))
@@ -63,13 +63,15 @@ wrong("ShorterFile", "3 lets a file pass that is shorter than its windows",
 wrong("WholeWindows", "3 asks only for whole windows", question_3=lambda self, file, windows: len(file) % 8 == 0)
 wrong("NoFour", "4 is not asked", question_4=lambda self, length, minimum: True)
 wrong("LongerThanTheMinimum", "4 asks for more than the minimum", question_4=lambda self, length, minimum: length > minimum)
-wrong("SumIn32Bits", "the sum of 5 in 32 bits", question_5=lambda self, offset, length: (offset + length) % 2**32 <= 10_000_000)
-wrong("EndBelowLimit", "5 asks for an end below 10,000,000", question_5=lambda self, offset, length: offset + length < 10_000_000)
-wrong("LastMinuteForEnd", "5 asked of the last minute that a window covers",
-      question_5=lambda self, offset, length: offset + length - 1 <= 10_000_000)
-wrong("FiveOfTheOffset", "5 asked of the offset alone", question_5=lambda self, offset, length: offset <= 10_000_000)
+wrong("SumIn32Bits", "the sum of 5 in 32 bits",
+      question_5=lambda self, offset, length: (offset + length) % 2**32 <= 4_294_967_295)
+wrong("EndBelowLimit", "5 asks for an end below 4,294,967,295",
+      question_5=lambda self, offset, length: offset + length < 4_294_967_295)
+wrong("LastUnitForEnd", "5 asked of the last unit that a window covers",
+      question_5=lambda self, offset, length: offset + length - 1 <= 4_294_967_295)
+wrong("FiveOfTheOffset", "5 asked of the offset alone", question_5=lambda self, offset, length: offset <= 4_294_967_295)
 wrong("FiveOfEachNumber", "5 asked of the offset and of the length, not of their sum",
-      question_5=lambda self, offset, length: max(offset, length) <= 10_000_000)
+      question_5=lambda self, offset, length: max(offset, length) <= 4_294_967_295)
 wrong("EqualOffsetsRefused", "6 asks for a greater offset", question_6=lambda self, offset, before: offset > before)
 wrong("NoSix", "6 is not asked; windows are sorted by offset instead",
       ask_windows=lambda self, pairs, minimum, input: (pairs.sort(), Reader.ask_windows(self, pairs, minimum, input)))
@@ -154,7 +156,7 @@ wrong("Touching", "windows that touch taken as overlapping",
       overlap=lambda self, plan, u, v: plan.ends[u] == plan.offsets[v] or Reader.overlap(self, plan, u, v))
 wrong("StrictOffsets", "windows of equal offset taken as not overlapping",
       overlap=lambda self, plan, u, v: plan.offsets[u] < plan.offsets[v] and Reader.overlap(self, plan, u, v))
-wrong("TwoMinutes", "one shared minute is not enough, though the minimum is 1",
+wrong("TwoUnits", "one shared unit is not enough, though the minimum is 1",
       overlap=lambda self, plan, u, v: Reader.overlap(self, plan._replace(minimum=max(plan.minimum, 2)), u, v))
 wrong("Contained", "a window inside another taken as not overlapping it",
       overlap=lambda self, plan, u, v: plan.ends[u] < plan.ends[v] and Reader.overlap(self, plan, u, v))
@@ -652,7 +654,7 @@ def next_to_each_other(self, plan):
     return [self.overlap(plan, v - 1, v) for v in range(1, len(plan.offsets))] + [len(plan.offsets)]
 
 
-comparing("SameMinutes", "sameness by offsets and lengths", lambda self, a, b: (a.offsets, a.lengths) == (b.offsets, b.lengths))
+comparing("SameWindows", "sameness by offsets and lengths", lambda self, a, b: (a.offsets, a.lengths) == (b.offsets, b.lengths))
 comparing("SameLengths", "sameness by lengths", lambda self, a, b: a.lengths == b.lengths)
 comparing("SameNumbers", "sameness by the number of windows", lambda self, a, b: len(a.offsets) == len(b.offsets))
 comparing("SameTrees", "sameness by parents", lambda self, a, b: self.parent_table(a) == self.parent_table(b))

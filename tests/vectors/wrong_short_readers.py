@@ -13,7 +13,7 @@ __all__ = ["WRONG"]
 
 wrong("NoThirteen", "13 is not asked", question_13=lambda self, end, before: True)
 wrong("EqualEndsRefused", "13 asks for a greater end", question_13=lambda self, end, before: end > before)
-wrong("OneMinuteLess", "13 lets an end pass that falls by one minute", question_13=lambda self, end, before: end + 1 >= before)
+wrong("OneUnitLess", "13 lets an end pass that falls by one unit", question_13=lambda self, end, before: end + 1 >= before)
 wrong("EndsTurnedRound", "13 asks for ends that do not rise", question_13=lambda self, end, before: end <= before)
 wrong("EndsIn16Bits", "13 compares ends in 16 bits", question_13=lambda self, end, before: end % 2**16 >= before % 2**16)
 wrong("TagsAskThirteen", "13 asked where tags are wanted that are not short",
