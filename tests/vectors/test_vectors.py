@@ -17,7 +17,7 @@ from library import Library
 from reader import Reader, Refused
 from vectors import CALLS, DOCS, FOLDER, Malformed, all_vectors, bytes_of_rows, parse_file, parse_vector, passes, said
 from vectors import without_comment, words_of
-from wrong_margin_readers import WRONG
+from wrong_end_readers import WRONG
 
 VECTORS = sorted(all_vectors(), key=lambda one: 10**9 if one.where.startswith("long.txt") else len(one.text))  # The quick first.
 DOCUMENT = (DOCS / "FORMAT.md").read_text(encoding="utf-8")

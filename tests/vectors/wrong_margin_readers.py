@@ -1,7 +1,7 @@
 """Wrong readers of a margin, beside those of wrong_readers.py and of the same kind: the right one with one mistake each.
 
 A mistake that no vector can show is not here: the two lengths added, less what lies from the smaller offset to the greater end
-(that is the margin).
+(that is the margin). wrong_end_readers.py has those of margins that need more than 31 bits.
 """
 from reader import Reader, Refused
 from wrong_change_readers import WRONG, InTurn
