@@ -11,7 +11,7 @@ WINDOWS_LIMIT = 2048  # windows of a plan, at most
 PLAN_LIMIT = HEADER_LENGTH + WINDOW_LENGTH * WINDOWS_LIMIT  # bytes of the longest plan file
 PLAN_NUMBER_LENGTH, PLAN_NUMBER_LIMIT = 2, 65535  # bytes of the number that a plan file and a tag begin with, and the greatest
 MINIMUM_LEAST, MINIMUM_LIMIT = 1, 86_400  # the least and the greatest minimum handover; no window is shorter than its plan's
-END_LIMIT = 10_000_000  # the greatest end of a window
+END_LIMIT = 2**32 - 1  # the greatest end of a window
 NUMBER_LIMIT = 2**32 - 1  # the greatest offset, length or minimum that a plan file can hold
 
 TAG = struct.Struct("<5H")

@@ -20,7 +20,7 @@ WORDS: Dict[int, str] = {
     11: "the first tag is of plan {plan} and the second of plan {other_plan}",
     12: "the two tags have component {component} and rank {rank} alike and differ elsewhere, so they are not both of one plan",
     13: "{the_window} ends at {end:,} and the one before it at {end_before:,}; short tags need ends that never fall",
-    14: "{the_plan} has a minimum handover of {minimum:,} minutes; a minimum is {MINIMUM_LEAST} to {MINIMUM_LIMIT:,}",
+    14: "{the_plan} has a minimum handover of {minimum:,}; a minimum is {MINIMUM_LEAST} to {MINIMUM_LIMIT:,}",
     15: "{the_plan} has {windows}, and no plan has more; none can be added",
     16: "{the_plan} has number {plan} already; a changed plan has another",
 }

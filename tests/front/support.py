@@ -39,6 +39,7 @@ SHORT_TAGS = bytes.fromhex(
 )
 BOLTING = (EXAMPLES / "bolting.plan").read_bytes()  # plan 21, with a minimum of 30
 PLAN_31 = EXAMPLES / "plan-31.plan"
+END_LIMIT = 2**32 - 1
 NAMED = ("--names", EXAMPLES / "year.txt", "--origin", "2026-01-01")
 LISTING_12 = "12 7 2\n0 0 0 0 5 4\n1 0 0 1 0 3\n2 0 0 1 3 2\n3 0 0 1 4 4\n4 2 0 2 2 1\n5 4 0 3 1 1\n6 6 1 0 0 0\n"
 
@@ -55,11 +56,11 @@ def plan(*windows, number=12, minimum=1) -> bytes:
 REFUSED_PLANS = {
     b"\x0c\0\0": "1: the plan has 3 bytes; a plan has at least 8",
     b"\x0c\0\x01\x08\0\0\0\0": "2: the plan is said to have 2,049 windows; a plan has at most 2,048",
-    plan((0, 9), minimum=0)[:-1]: "14: the plan has a minimum handover of 0 minutes; a minimum is 1 to 86,400",
+    plan((0, 9), minimum=0)[:-1]: "14: the plan has a minimum handover of 0; a minimum is 1 to 86,400",
     plan((0, 9))[:-1]: "3: the plan has 15 bytes; with 1 window it has exactly 16",
     plan((5, 0), (6, 5)): "4: window 0 of the plan has length 0; a length is at least the minimum handover, 1",
     plan((5, 5), (4, 0)): "4: window 1 of the plan has length 0; a length is at least the minimum handover, 1",
-    plan((9_999_999, 2)): "5: window 0 of the plan ends at 10,000,001; an end is at most 10,000,000",
+    plan((END_LIMIT, 1)): "5: window 0 of the plan ends at 4,294,967,296; an end is at most 4,294,967,295",
     plan((5, 5), (4, 5)): "6: window 1 of the plan begins at 4, earlier than the window before it, at 5",
 }
 

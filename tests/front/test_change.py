@@ -8,7 +8,7 @@ import subprocess
 import unittest
 from unittest import mock
 
-from support import BOLTING, EXAMPLES, FRONT, NAMED, PLAN_12, PLAN_31, REFUSED_PLANS, TAGS_12, Case, Forms, OldFile, at_most, line_plan
+from support import BOLTING, END_LIMIT, EXAMPLES, FRONT, NAMED, PLAN_12, PLAN_31, REFUSED_PLANS, TAGS_12, Case, Forms, OldFile, at_most, line_plan
 from support import needs_modes, obey_modes, plan, random_windows, refusal
 
 import poddreshi
@@ -164,12 +164,15 @@ class Package(unittest.TestCase):
             ((4, 0, 0), (add, PLAN_12, 13, far, 0)),
             ((4, 0, 0), (add, BOLTING, 22, 0, 29)),
             ((5, 0, 0), (add, PLAN_12, 13, far, far)),
-            ((5, 0, 0), (add, PLAN_12, 13, 9_999_999, 2)),
-            ((5, 0, 0), (add, plan(), 13, 10_000_000, 1)),
+            ((5, 0, 0), (add, PLAN_12, 13, far - 1, 2)),
+            ((5, 0, 0), (add, PLAN_12, 13, 2**31, 2**31)),
+            ((5, 0, 0), (add, plan(), 13, far, 1)),
+            ((5, 0, 0), (add, plan(), 13, 1, far)),
             ((7, 0, 0), (withdraw, PLAN_12, 13, 7)),
             ((7, 0, 0), (withdraw, plan(), 13, 0)),
-            (None, (add, PLAN_12, 13, 9_999_999, 1)),
-            (None, (add, PLAN_12, 13, 0, 10_000_000)),
+            (None, (add, PLAN_12, 13, 10_000_000, 1)),
+            (None, (add, PLAN_12, 13, far - 1, 1)),
+            (None, (add, PLAN_12, 13, 0, far)),
             (None, (add, BOLTING, 22, 0, 30)),
             (None, (withdraw, full, 13, 2047)),
         ):
@@ -189,7 +192,7 @@ class Package(unittest.TestCase):
             "15: the plan has 2,048 windows, and no plan has more; none can be added": (poddreshi.add, line_plan(), 13, 0, 1),
             "16: the plan has number 12 already; a changed plan has another": (poddreshi.withdraw, PLAN_12, 12, 0),
             "4: the added window has length 29; a length is at least the minimum handover, 30": (poddreshi.add, BOLTING, 22, 0, 29),
-            "5: the added window ends at 8,589,934,590; an end is at most 10,000,000": (poddreshi.add, PLAN_12, 13, far, far),
+            "5: the added window ends at 8,589,934,590; an end is at most 4,294,967,295": (poddreshi.add, PLAN_12, 13, far, far),
             "7: there is no window 7: the plan has 7 windows, 0 to 6": (poddreshi.withdraw, PLAN_12, 13, 7),
         }.items():
             with self.assertRaises(poddreshi.Refused) as caught:
@@ -238,7 +241,7 @@ class Lent(unittest.TestCase):
 
     def test_a_refusal_writes_nothing(self):
         rest = bytes([0xAA]) * 120
-        for change in (("add", 12, 20, 5), ("add", 13, 20, 0), ("add", 13, 10_000_000, 1), ("withdraw", 12, 3), ("withdraw", 13, 7)):
+        for change in (("add", 12, 20, 5), ("add", 13, 20, 0), ("add", 13, END_LIMIT, 1), ("withdraw", 12, 3), ("withdraw", 13, 7)):
             self.assertEqual(self.asked(*change, file=120, tags=120)[1:], (rest, rest), change)
 
 
@@ -397,8 +400,8 @@ class Refusals(Command):
         for words, change in {
             "15: the plan has 2,048 windows, and no plan has more; none can be added": ("add", full, 12, 0, 0),
             "16: the plan has number 12 already; a changed plan has another": ("add", self.plan, 12, 0, 0),
-            "4: the added window has length 0; a length is at least the minimum handover, 1": ("add", self.plan, 13, 10**7, 0),
-            "5: the added window ends at 10,000,001; an end is at most 10,000,000": ("add", self.plan, 13, 10**7, 1),
+            "4: the added window has length 0; a length is at least the minimum handover, 1": ("add", self.plan, 13, END_LIMIT, 0),
+            "5: the added window ends at 4,294,967,296; an end is at most 4,294,967,295": ("add", self.plan, 13, END_LIMIT, 1),
             "7: there is no window 7: the plan has 7 windows, 0 to 6": ("withdraw", self.plan, 13, 7),
         }.items():
             for form in ((), ("-o", "x", "--tags", "y", "--csv")):

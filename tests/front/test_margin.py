@@ -7,7 +7,7 @@ import unittest
 from collections import Counter
 from unittest import mock
 
-from support import BOLTING, EXAMPLES, NAMED, PLAN_12, PLAN_31, REFUSED_PLANS, Forms, OldFile, at_most, line_plan, plan
+from support import BOLTING, END_LIMIT, EXAMPLES, NAMED, PLAN_12, PLAN_31, REFUSED_PLANS, Forms, OldFile, at_most, line_plan, plan
 from support import random_windows, refusal
 
 import poddreshi
@@ -19,8 +19,8 @@ MARGINS_12 = {  # worked out by hand
     **{(0, 1): 3, (0, 2): 6, (0, 3): 1, (0, 4): -2, (0, 5): -7, (0, 6): -8, (1, 2): 1, (1, 3): -4, (2, 3): 2, (2, 4): 4},
     **{(2, 5): -1, (3, 4): -1, (4, 5): 1, (4, 6): 0, (5, 6): 0, (0, 0): 10, (5, 5): 1},
 }
-FARTHEST = plan((0, 1), (9_999_999, 1))  # no two windows can lie further apart
-LONGEST = plan((0, 10_000_000))
+FARTHEST = plan((0, 1), (END_LIMIT - 1, 1))  # no two windows can lie further apart
+LONGEST = plan((0, END_LIMIT))
 FORMS = ((), ("--number",), ("--csv",), ("--json",))
 NO_7 = "refused by question 7: there is no window 7: the plan has 7 windows, 0 to 6"
 HINT = "a position is a number from 0; names come with --names"
@@ -109,11 +109,12 @@ class Package(unittest.TestCase):
             self.assertEqual([poddreshi.margin(plan(one, other), *pair) for pair in ((0, 1), (1, 0))], [5, 5])
 
     def test_the_greatest_and_the_least(self):
-        self.assertEqual([poddreshi.margin(FARTHEST, *pair) for pair in ((0, 1), (1, 0))], [-9_999_998] * 2)
+        self.assertEqual([poddreshi.margin(FARTHEST, *pair) for pair in ((0, 1), (1, 0))], [-4_294_967_293] * 2)
         self.assertEqual(laid_out((0, 1), (9_999_999, 1)), -9_999_998)
-        self.assertEqual(poddreshi.margin(LONGEST, 0, 0), 10_000_000)
-        self.assertEqual(poddreshi.margin(plan((0, 10_000_000), (9_999_999, 1)), 1, 0), 1)
-        self.assertEqual(poddreshi.margin(plan((0, 9_999_999), (9_999_999, 1)), 0, 1), 0)
+        self.assertEqual(poddreshi.margin(plan((0, 1), (9_999_999, 1)), 0, 1), -9_999_998)
+        self.assertEqual(poddreshi.margin(LONGEST, 0, 0), 4_294_967_295)
+        self.assertEqual(poddreshi.margin(plan((0, END_LIMIT), (END_LIMIT - 1, 1)), 1, 0), 1)
+        self.assertEqual(poddreshi.margin(plan((0, END_LIMIT - 1), (END_LIMIT - 1, 1)), 0, 1), 0)
 
     def test_the_largest_plan(self):
         pairs = ((0, 1), (0, 2), (0, 2047), (2047, 0), (2046, 2047), (2047, 2047))
@@ -160,7 +161,7 @@ class Lent(unittest.TestCase):
         return library.ask("margin", file, len(file), *pair, lent), tuple(numbers)
 
     def test_it_is_written_and_nothing_beside_it(self):
-        for file, pair, due in ((PLAN_12, (0, 2), 6), (PLAN_12, (4, 6), 0), (FARTHEST, (1, 0), -9_999_998), (LONGEST, (0, 0), 10**7)):
+        for file, pair, due in ((PLAN_12, (0, 2), 6), (PLAN_12, (4, 6), 0), (FARTHEST, (1, 0), 2 - END_LIMIT), (LONGEST, (0, 0), END_LIMIT)):
             self.assertEqual(self.asked(file, *pair), ((library.Kind.MARGIN, [0, 0, 0]), (-77, due, -79)))
 
     def test_a_refusal_writes_nothing(self):
@@ -190,15 +191,15 @@ class Answers(Command):
         }.items():
             self.assertEqual(self.text(self.plan, *pair), told + "\n")
             self.assertEqual(self.text(self.plan, *pair[::-1]), told + "\n")
-        self.assertEqual(self.text("-", 0, 1, stdin=FARTHEST), "9,999,998 minutes apart\n")
-        self.assertEqual(self.text("-", 0, 0, stdin=LONGEST), "shares 10,000,000 minutes\n")
+        self.assertEqual(self.text("-", 0, 1, stdin=FARTHEST), "4,294,967,293 minutes apart\n")
+        self.assertEqual(self.text("-", 0, 0, stdin=LONGEST), "shares 4,294,967,295 minutes\n")
 
     def test_the_bare_number(self):
         for first, second in itertools.product(range(7), repeat=2):
             due = laid_out(WINDOWS_12[first], WINDOWS_12[second])
             self.assertEqual(self.text(self.plan, first, second, "--number"), f"{due}\n")
-        self.assertEqual(self.text("-", 0, 1, "--number", stdin=FARTHEST), "-9999998\n")
-        self.assertEqual(self.text("-", 0, 0, "--number", stdin=LONGEST), "10000000\n")
+        self.assertEqual(self.text("-", 0, 1, "--number", stdin=FARTHEST), "-4294967293\n")
+        self.assertEqual(self.text("-", 0, 0, "--number", stdin=LONGEST), "4294967295\n")
         told = self.text(self.year, "South pier, generator", "Tank yard, drill rig", "--number", *NAMED)
         self.assertEqual(told, "-360\n")  # in minutes, and nothing with it
 

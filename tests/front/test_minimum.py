@@ -15,7 +15,7 @@ from poddreshi import figures
 
 SVG = "{http://www.w3.org/2000/svg}"
 PAIR = ((0, 10), (5, 10))  # which share five minutes
-BAD = "refused by question 14: the plan has a minimum handover of {} minutes; a minimum is 1 to 86,400"
+BAD = "refused by question 14: the plan has a minimum handover of {}; a minimum is 1 to 86,400"
 
 
 def shared(one: tuple, other: tuple) -> int:

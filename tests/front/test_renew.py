@@ -1,7 +1,7 @@
 """Plan files of before the minimum handover: made anew, and told where they are given for plans of now."""
 import unittest
 
-from support import EXAMPLES, LISTING_12, PLAN_12, Case, line_plan, old_plan, plan
+from support import END_LIMIT, EXAMPLES, LISTING_12, PLAN_12, Case, line_plan, old_plan, plan
 
 import poddreshi
 
@@ -44,14 +44,14 @@ class Renew(Case):
     def test_refused_by_the_library(self):
         two = old_plan((0, 10), (5, 10))
         for minimum in (0, 86_401):
-            words = f"refused by question 14: the plan has a minimum handover of {minimum:,} minutes; a minimum is 1 to 86,400"
+            words = f"refused by question 14: the plan has a minimum handover of {minimum:,}; a minimum is 1 to 86,400"
             self.refused(words, "--minimum", minimum, stdin=two)
         words = "refused by question 4: window 0 of the plan has length 10; a length is at least the minimum handover, 11"
         self.refused(words, "--minimum", 11, stdin=two)
         words = "refused by question 4: window 1 of the plan has length 0; a length is at least the minimum handover, 1"
         self.refused(words, stdin=old_plan((0, 10), (5, 0)))
-        words = "refused by question 5: window 0 of the plan ends at 10,000,001; an end is at most 10,000,000"
-        self.refused(words, stdin=old_plan((9_999_999, 2)))
+        words = "refused by question 5: window 0 of the plan ends at 4,294,967,296; an end is at most 4,294,967,295"
+        self.refused(words, stdin=old_plan((END_LIMIT, 1)))
         words = "refused by question 6: window 1 of the plan begins at 4, earlier than the window before it, at 5"
         self.refused(words, stdin=old_plan((5, 5), (4, 5)))
 
@@ -87,8 +87,8 @@ class Hint(Case):
 
     OLD = {
         old_plan(): "1: the plan has 4 bytes; a plan has at least 8",
-        OLD_12: "14: the plan has a minimum handover of 0 minutes; a minimum is 1 to 86,400",
-        old_plan((86_401, 5)): "14: the plan has a minimum handover of 86,401 minutes; a minimum is 1 to 86,400",
+        OLD_12: "14: the plan has a minimum handover of 0; a minimum is 1 to 86,400",
+        old_plan((86_401, 5)): "14: the plan has a minimum handover of 86,401; a minimum is 1 to 86,400",
         old_plan((5, 5)): "3: the plan has 12 bytes; with 1 window it has exactly 16",
     }
     ASKING = (
@@ -104,7 +104,7 @@ class Hint(Case):
     def test_either_of_two(self):
         new = self.file("new.plan", PLAN_12)
         for which, files in {"first": ("-", new), "second": (new, "-")}.items():
-            words = f"14: the {which} plan has a minimum handover of 0 minutes; a minimum is 1 to 86,400 {HINT}"
+            words = f"14: the {which} plan has a minimum handover of 0; a minimum is 1 to 86,400 {HINT}"
             self.says(1, f"refused by question {words}", "same", *files, stdin=OLD_12)
 
     def test_list_keeps_its_line(self):

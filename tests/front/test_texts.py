@@ -65,7 +65,7 @@ class Reading(unittest.TestCase):
 
 class Faults(unittest.TestCase):
     def test_all_at_once_in_order_of_lines(self):
-        text = b"5 5\n4 0\n9\nx 1\n6 x\n\xff 1\n3 1\n10000000 1\n"
+        text = b"5 5\n4 0\n9\nx 1\n6 x\n\xff 1\n3 1\n4294967295 1\n"
         text += b"2026-01-01 08:00 1\n4294967296 1\n7 4294967296\n8 1 a\x07\n9 1\n"
         self.assertEqual(faults(text), [
             "line 2: refused by question 4: window 1 of the plan has length 0; a length is at least the minimum handover, 1",
@@ -75,12 +75,12 @@ class Faults(unittest.TestCase):
             'line 5: "x" is no length; write minutes (90), or days, hours and minutes (2d, 48h, 1h30m)',
             "line 6: is no text in UTF-8",
             "line 7: refused by question 6: window 2 of the plan begins at 3, earlier than the window before it, at 4",
-            "line 8: refused by question 5: window 3 of the plan ends at 10,000,001; an end is at most 10,000,000",
+            "line 8: refused by question 5: window 3 of the plan ends at 4,294,967,296; an end is at most 4,294,967,295",
             'line 9: "2026-01-01 08:00" is a date; say with --origin which date minute 0 is',
             "line 10: an offset of 4,294,967,296 does not fit a plan file, which holds up to 4,294,967,295",
             "line 11: a length of 4,294,967,296 does not fit a plan file, which holds up to 4,294,967,295",
             "line 12: a name has no control characters",
-            "line 13: refused by question 6: window 4 of the plan begins at 9, earlier than the window before it, at 10,000,000",
+            "line 13: refused by question 6: window 4 of the plan begins at 9, earlier than the window before it, at 4,294,967,295",
         ])
 
     def test_a_first_line_that_is_nothing(self):
@@ -92,13 +92,13 @@ class Faults(unittest.TestCase):
         self.assertEqual(faults("0,10,North\n"), [told])
 
     def test_order_behind_an_end_that_is_too_late(self):
-        self.assertEqual(faults("10000000 1\n5 1\n"), [
-            "line 1: refused by question 5: window 0 of the plan ends at 10,000,001; an end is at most 10,000,000",
-            "line 2: refused by question 6: window 1 of the plan begins at 5, earlier than the window before it, at 10,000,000",
+        self.assertEqual(faults("4294967295 1\n5 1\n"), [
+            "line 1: refused by question 5: window 0 of the plan ends at 4,294,967,296; an end is at most 4,294,967,295",
+            "line 2: refused by question 6: window 1 of the plan begins at 5, earlier than the window before it, at 4,294,967,295",
         ])
 
     def test_order_of_ends_that_are_all_too_late(self):
-        told = [fault[:29] for fault in faults("20000000 1\n15000000 1\n4294967295 1\n4294967294 1\n")]
+        told = [fault[:29] for fault in faults("4294967292 9\n4294967291 9\n4294967295 1\n4294967294 2\n")]
         asked = [(1, 5), (2, 5), (2, 6), (3, 5), (4, 5), (4, 6)]
         self.assertEqual(told, [f"line {line}: refused by question {number}" for line, number in asked])
 
@@ -127,7 +127,7 @@ class RoundTrip(Case):
         shown = ["", "North pier", "Bay #3", '"quoted"', 'half"', "# hash", "a  b", "Kürs 7", "12 30", "2026-01-01"]
         for case in range(300):
             count = generator.choice([0, 1, 2, 7, 40])
-            span = generator.choice([3, 100, 5000, 9_000_000])
+            span = generator.choice([3, 100, 5000, 9_000_000, 4_000_000_000])
             windows = random_windows(generator, count, span, generator.choice([2, 400, 900_000]))
             windows = [poddreshi.Window(*window) for window in windows]
             clock, named = generator.choice(origins), [generator.choice(shown) for _ in windows]

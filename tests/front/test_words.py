@@ -49,15 +49,15 @@ class Words(Case):
         for file, words in {
             b"\x0c\0\0": "1: the plan has 3 bytes; a plan has at least 8",
             b"\x0c\0\x01\x08\0\0\0\0": "2: the plan is said to have 2,049 windows; a plan has at most 2,048",
-            plan(minimum=0): "14: the plan has a minimum handover of 0 minutes; a minimum is 1 to 86,400",
-            plan((0, 9), minimum=86_401)[:-1]: "14: the plan has a minimum handover of 86,401 minutes; a minimum is 1 to 86,400",
-            plan(minimum=2**32 - 1): "14: the plan has a minimum handover of 4,294,967,295 minutes; a minimum is 1 to 86,400",
+            plan(minimum=0): "14: the plan has a minimum handover of 0; a minimum is 1 to 86,400",
+            plan((0, 9), minimum=86_401)[:-1]: "14: the plan has a minimum handover of 86,401; a minimum is 1 to 86,400",
+            plan(minimum=2**32 - 1): "14: the plan has a minimum handover of 4,294,967,295; a minimum is 1 to 86,400",
             plan() + b"\0": "3: the plan has 9 bytes; with no windows it has exactly 8",
             plan((5, 5), (4, 0)): "4: window 1 of the plan has length 0; a length is at least the minimum handover, 1",
             plan((0, 1440), (5, 1439), minimum=1440): "4: window 1 of the plan has length 1,439; "
             "a length is at least the minimum handover, 1,440",
-            plan((9999999, 2)): "5: window 0 of the plan ends at 10,000,001; an end is at most 10,000,000",
-            plan((2**32 - 1, 2**32 - 1)): "5: window 0 of the plan ends at 8,589,934,590; an end is at most 10,000,000",
+            plan((2**32 - 2, 2)): "5: window 0 of the plan ends at 4,294,967,296; an end is at most 4,294,967,295",
+            plan((2**32 - 1, 2**32 - 1)): "5: window 0 of the plan ends at 8,589,934,590; an end is at most 4,294,967,295",
             plan((5, 5), (4, 5)): "6: window 1 of the plan begins at 4, earlier than the window before it, at 5",
         }.items():
             self.refused(words, "tags", "-", stdin=file)
@@ -75,7 +75,7 @@ class Words(Case):
         name = self.file("12.plan", PLAN_12)
         self.refused("1: the second plan has no bytes; a plan has at least 8", "same", name, "-")
         self.refused("1: the first plan has no bytes; a plan has at least 8", "same", "-", name)
-        words = "14: the second plan has a minimum handover of 0 minutes; a minimum is 1 to 86,400"
+        words = "14: the second plan has a minimum handover of 0; a minimum is 1 to 86,400"
         self.refused(words, "same", name, "-", stdin=plan(minimum=0))
         words = "4: window 0 of the first plan has length 10; a length is at least the minimum handover, 11"
         self.refused(words, "same", "-", name, stdin=plan((0, 10), (5, 10), minimum=11))
@@ -101,7 +101,7 @@ class Words(Case):
 
     def test_a_plan_that_is_too_long_is_not_read_to_its_end(self):
         with open("/dev/zero", "rb") as endless:
-            words = "14: the plan has a minimum handover of 0 minutes; a minimum is 1 to 86,400"
+            words = "14: the plan has a minimum handover of 0; a minimum is 1 to 86,400"
             self.refused(words, "tags", "-", stdin_file=endless)
         words = "3: the plan has more than 16,392 bytes; with no windows it has exactly 8"
         self.refused(words, "tags", "-", stdin=plan() + bytes(100_000))
