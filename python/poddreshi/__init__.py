@@ -31,14 +31,15 @@ positions whose tags changed in more than the plan number.
     >>> poddreshi.withdraw(changed.file, 14, 7).altered
     (6,)
 
-Two windows overlap when they share at least the plan's minimum handover, which is 1 minute where none is given.
+Two windows overlap when they share at least the plan's minimum handover, which is 1 where none is given. What the numbers count,
+minutes or seconds, is agreed outside the file.
 
     >>> bolting = poddreshi.pack(21, [(0, 60), (20, 90), (50, 70)], minimum=30)
     >>> poddreshi.chain(bolting, 0, 2)
     Chain(positions=(2, 1, 0))
 
-The margin of two windows is the number of minutes that they share, whatever the minimum is; 0 where one ends as the other begins; and
-below 0 for the minutes between them.
+The margin of two windows is how much they share, whatever the minimum is; 0 where one ends as the other begins; and below 0 how
+far they lie apart.
 
     >>> poddreshi.margin(bolting, 0, 2)
     10

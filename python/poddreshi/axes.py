@@ -1,21 +1,27 @@
-"""A time axis: minutes to places on a sheet, with empty stretches cut out, and the marks that it carries."""
-from datetime import datetime
+"""A time axis: the numbers of a plan to places on a sheet, with empty stretches cut out, and the marks that it carries."""
+import itertools
+from datetime import datetime, timedelta
 from typing import Iterator, List, NamedTuple, Sequence, Tuple
 
 from .plans import Window
-from .times import MINUTE, Clock
+from .svg import width
+from .times import Clock
 
-HOUR, DAY = 60, 24 * 60
-_DAYS = (1, 2, 7, 14, 20, 50, 100, 200, 500, 1000, 2000)
-_STEPS = (1, 2, 5, 10, 15, 30, HOUR, 2 * HOUR, 3 * HOUR, 6 * HOUR, 12 * HOUR, *(DAY * days for days in _DAYS))
-_MONTHS = (1, 2, 3, 6, 12, 24, 60, 120, 240)
-_MONTH = 31 * DAY  # at most
+_DAY = timedelta(days=1)
+_STEPS = (  # of a clock or a calendar; past these, round numbers of days
+    *(timedelta(seconds=count) for count in (1, 2, 5, 10, 15, 30)),
+    *(timedelta(minutes=count) for count in (1, 2, 5, 10, 15, 30)),
+    *(timedelta(hours=count) for count in (1, 2, 3, 6, 12)),
+    *(timedelta(days=count) for count in (1, 2, 7, 14)),
+)
+_MONTHS = ((1, 28), (2, 59), (3, 90), (6, 181))  # each with its days, at least; past these, round numbers of years
 CUT = 26  # pixels of a stretch that is cut out
+LABEL = 11  # size of a label
 _APART = 74  # pixels from one labelled mark to the next, at least
 
 
 class Stretch(NamedTuple):
-    """Minutes that the axis shows, or that it cuts, and where on the sheet."""
+    """What the axis shows, or cuts, and where on the sheet."""
 
     start: int
     end: int
@@ -25,7 +31,7 @@ class Stretch(NamedTuple):
 
 
 class Axis:
-    """Minutes from the least to the greatest that the windows cover, between two places on the sheet."""
+    """From the least to the greatest number that the windows cover, between two places on the sheet."""
 
     def __init__(self, windows: Sequence[Window], start: int, end: int, left: float, right: float):
         covered = _covered(windows, start, end)
@@ -34,17 +40,17 @@ class Axis:
         first = self.stretches[0]  # which no cut is
         self.scale = (first.right - first.left) / (first.end - first.start)
 
-    def place(self, minute: float) -> float:
-        """Where a minute stands; one before or after the axis stands at its end."""
+    def place(self, number: float) -> float:
+        """Where a number stands; one before or after the axis stands at its end."""
         for stretch in self.stretches:
-            if minute <= stretch.end:
-                share = (max(minute, stretch.start) - stretch.start) / (stretch.end - stretch.start)
+            if number <= stretch.end:
+                share = (max(number, stretch.start) - stretch.start) / (stretch.end - stretch.start)
                 return stretch.left + share * (stretch.right - stretch.left)
         return self.right
 
 
 def _covered(windows: Sequence[Window], start: int, end: int) -> List[Tuple[int, int]]:
-    """The stretches of minutes in which some window is, in order."""
+    """The stretches in which some window is, in order."""
     found: List[Tuple[int, int]] = []
     for window in sorted(windows):
         begin, finish = max(window.offset, start), min(window.end, end)
@@ -82,53 +88,86 @@ def _cuts(gaps: List[Tuple[int, int]], span: int, room: float) -> Tuple[set, flo
 
 
 class Mark(NamedTuple):
-    minute: int
+    number: int
     label: str
     date: str  # above the label where it is another one than before, with an origin
+
+
+def _label(number: int, clock: Clock) -> Tuple[str, str]:
+    """The date, where there is an origin, and the time, with seconds where it has some; or the bare number."""
+    if clock.origin is None:
+        return "", f"{number:,}"
+    moment = clock.date(number)
+    return moment.date().isoformat(), moment.time().isoformat("seconds" if moment.second else "minutes")
+
+
+def label_width(end: int, clock: Clock) -> float:
+    """Pixels of the widest label on an axis up to this number: none has more digits."""
+    return width(_label(end, clock)[1], LABEL)
+
+
+def apart(axis: Axis, clock: Clock) -> float:
+    """Pixels from one labelled mark to the next, at least."""
+    return max(_APART, label_width(axis.end, clock) + 10)
 
 
 def marks(axis: Axis, clock: Clock) -> List[Mark]:
     """Marks that are far enough apart to be read; each stretch begins with one where there is room."""
     found: List[Mark] = []
-    free, date = axis.left - _APART, ""
+    room = apart(axis, clock)
+    free, date = axis.left - room, ""
     for stretch in axis.stretches:
         if stretch.cut:
             continue
-        minutes = list(_minutes(stretch, axis.scale, clock))
-        if not minutes or axis.place(minutes[0]) - stretch.left > _APART / 2:
-            minutes.insert(0, stretch.start)
-        for minute in minutes:
-            if axis.place(minute) - free >= _APART:
-                day, label = ("", f"{minute:,}") if clock.origin is None else clock.show(minute).split(" ")
-                found.append(Mark(minute, label, day if day != date else ""))
-                free, date = axis.place(minute), day
+        numbers = list(_numbers(stretch, room / axis.scale, clock))
+        if not numbers or axis.place(numbers[0]) - stretch.left > room / 2:
+            numbers.insert(0, stretch.start)
+        for number in numbers:
+            if axis.place(number) - free >= room:
+                day, label = _label(number, clock)
+                found.append(Mark(number, label, day if day != date else ""))
+                free, date = axis.place(number), day
     return found
 
 
-def _minutes(stretch: Stretch, scale: float, clock: Clock) -> Iterator[int]:
-    """Round minutes, or round times of the calendar."""
-    least = _APART / scale
-    if clock.origin is not None and least > 14 * DAY:
+def _decimals() -> Iterator[int]:
+    """1, 2, 5, 10, 20, 50 and on without end."""
+    return (digit * 10**power for power in itertools.count() for digit in (1, 2, 5))
+
+
+def _steps(clock: Clock) -> Iterator[int]:
+    """Round steps, rising without end: of numbers that count nothing known, or of time."""
+    if clock.origin is None and clock.unit is None:
+        return _decimals()
+    days = itertools.dropwhile(lambda count: count * _DAY <= _STEPS[-1], _decimals())
+    known = (step // clock.step for step in _STEPS if step >= clock.step)
+    return itertools.chain(known, (_DAY // clock.step * count for count in days))
+
+
+def _numbers(stretch: Stretch, least: float, clock: Clock) -> Iterator[int]:
+    """Round numbers, or round times of the calendar, so far apart at least."""
+    if clock.origin is not None and least > _STEPS[-1] // clock.step:
         yield from _months(stretch, least, clock)
         return
-    step = next(step for step in _STEPS if step >= least)
+    step = next(step for step in _steps(clock) if step >= least)
     # With an origin, steps are counted from a Monday at midnight long ago.
-    base = 0 if clock.origin is None else (clock.origin - datetime.min) // MINUTE
-    minute = -(-(stretch.start + base) // step) * step - base
-    while minute <= stretch.end:
-        yield minute
-        minute += step
+    base = 0 if clock.origin is None else (clock.origin - datetime.min) // clock.step
+    number = -(-(stretch.start + base) // step) * step - base
+    while number <= stretch.end:
+        yield number
+        number += step
 
 
 def _months(stretch: Stretch, least: float, clock: Clock) -> Iterator[int]:
-    step = next(step for step in _MONTHS if step * _MONTH >= least)
+    steps = itertools.chain(_MONTHS, ((12 * years, 365 * years) for years in _decimals()))
+    step = next(step for step, days in steps if days * (_DAY // clock.step) >= least)
     start = clock.date(stretch.start)
     month = (12 * start.year + start.month - 1) // step * step
     while month < 12 * 9999:
         moment = datetime(max(month // 12, 1), month % 12 + 1, 1)
-        minute = (moment - clock.origin) // MINUTE
-        if minute > stretch.end:
+        number = (moment - clock.origin) // clock.step
+        if number > stretch.end:
             return
-        if minute >= stretch.start:
-            yield minute
+        if number >= stretch.start:
+            yield number
         month += step

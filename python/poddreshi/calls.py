@@ -226,8 +226,8 @@ def neighbours(file, at: int) -> Neighbours:
 
 
 def margin(file, first: int, second: int) -> int:
-    """The smaller end of two windows less the greater offset: the number of minutes that they share, 0 where one ends as the other
-    begins, and below 0 for the minutes between them. Of one window named twice it is the window's length."""
+    """The smaller end of two windows less the greater offset: how much they share, 0 where one ends as the other begins, and
+    below 0 how far they lie apart. Of one window named twice it is the window's length."""
     asked, out = Asked(plans=[file], positions=[first, second]), library.margin()
     _ask("margin", asked, *lend(file), position(first), position(second), out)
     return out.value

@@ -9,7 +9,7 @@ import sys
 import textwrap
 from typing import Callable, Iterator, NamedTuple, Optional, Sequence
 
-from . import building, calls, failures, files, figures, names, places, texts, times
+from . import building, calls, failures, files, figures, names, places, times
 from ._version import __version__
 from .failures import Failure, Mistake, Unfit
 from .given import Given
@@ -105,9 +105,11 @@ def exit_code(answer: str) -> Argument:
 
 PLAN = word("plan", "a plan file")
 OUTPUT = option("-o", "--output", metavar="FILE", help="write to a file, which is replaced when all is there")
-ORIGIN = option("--origin", metavar="DATE", type=_typed(times.date), help="the date of minute 0: 2026-01-01, or with a time")
-MINIMUM = option("--minimum", metavar="MINUTES", type=_typed(texts.minutes), help="the minimum handover: minutes (30), or 2h")
-NAMES = option("--names", metavar="FILE", help="show names: the plan's own text, or lines of a position and a name")
+ORIGIN = option("--origin", metavar="DATE", type=_typed(times.date), help="the date of number 0: 2026-01-01, or with a time")
+_UNIT = f"what the plan's numbers count, which no plan file says: {' or '.join(map(str, times.UNITS))}"
+UNIT = option("--unit", metavar="UNIT", type=_typed(times.unit), help=_UNIT)
+MINIMUM = option("--minimum", metavar="LENGTH", help="the minimum handover: a number (30), or 2h")
+NAMES = option("--names", metavar="FILE", help="show names: the plan's own text, with its unit, or lines of position and name")
 
 
 def number(words: str, limit: Optional[int] = None, thing: str = "a position") -> int:
@@ -120,15 +122,15 @@ def number(words: str, limit: Optional[int] = None, thing: str = "a position") -
 
 
 def given(args: argparse.Namespace) -> Given:
-    """The plan of the command, with names and dates where they were asked for."""
+    """The plan of the command, with names, dates and a unit where they were asked for, or a unit where its text states one."""
     once(args.plan, args.names)
     file = files.read(args.plan, figures.PLAN_LIMIT)
-    accepted, windows, clock = calls.validate(file), windows_of(file), Clock(args.origin)
-    named = names.Names([""] * len(windows))
-    if args.names is not None:
-        with reading(args.names):
-            named = names.read(files.read_whole(args.names, figures.TEXT_LIMIT, "file of names"), windows, clock)
-    return Given(file, accepted.plan, windows, named, clock)
+    accepted, windows, clock = calls.validate(file), windows_of(file), Clock(args.origin, args.unit)
+    if args.names is None:
+        return Given(file, accepted.plan, windows, names.Names([""] * len(windows)), clock.checked())
+    with reading(args.names):
+        named = names.read(files.read_whole(args.names, figures.TEXT_LIMIT, "file of names"), windows, clock)
+    return Given(file, accepted.plan, windows, *named)
 
 
 def once(*inputs: Optional[str]) -> None:

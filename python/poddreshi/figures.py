@@ -1,7 +1,7 @@
 """The figures of the formats, each in one place."""
 import struct
 
-HEADER = struct.Struct("<HHI")  # of a plan file: plan number, number of windows, minimum handover in minutes
+HEADER = struct.Struct("<HHI")  # of a plan file: plan number, number of windows, minimum handover
 HEADER_LENGTH = HEADER.size
 OLD_HEADER = struct.Struct("<HH")  # of before the minimum handover
 OLD_HEADER_LENGTH = OLD_HEADER.size

@@ -16,7 +16,7 @@ class Given(NamedTuple):
 
     @property
     def minimum(self) -> int:
-        """The minimum handover, in minutes."""
+        """The minimum handover."""
         return minimum_of(self.file)
 
     @property
@@ -24,7 +24,7 @@ class Given(NamedTuple):
         return f"minimum handover {self.clock.tell_length(self.minimum)}"
 
     def margin_words(self, margin: int) -> str:
-        """`shares 3 minutes`, `touches`, `1 minute apart`."""
+        """`shares 3`, `touches`, `1 second apart`."""
         length = self.clock.tell_length(abs(margin))
         return f"shares {length}" if margin > 0 else f"{length} apart" if margin < 0 else "touches"
 
@@ -46,28 +46,26 @@ class Given(NamedTuple):
 
     def data(self, position: int) -> dict:
         """The same for JSON."""
-        return {"position": position, "name": self.names[position], **self.minutes(self.windows[position])}
+        return {"position": position, "name": self.names[position], **self.times(self.windows[position])}
 
     def interval(self, position: int) -> str:
         """The same in words."""
         window = self.windows[position]
-        if self.clock.origin is None:
-            return f"minutes {window.offset:,} to {window.end:,}"
-        return f"{self.clock.show(window.offset)} to {self.clock.show(window.end)}"
+        return self.clock.tell_interval(window.offset, window.end)
 
-    def minutes(self, window: Window) -> dict:
-        """The minutes of a window for JSON, and the dates where there is an origin."""
+    def times(self, window: Window) -> dict:
+        """The numbers of a window for JSON, and the dates where there is an origin."""
         data = {"offset": window.offset, "length": window.length}
         if self.clock.origin:
             data.update(begin=self.clock.show(window.offset), end=self.clock.show(window.end))
         return data
 
     def span(self, positions: Sequence[int]) -> Window:
-        """The minutes from the first begin of some windows to their last end."""
+        """The time from the first begin of some windows to their last end."""
         begin = min(self.windows[position].offset for position in positions)
         return Window(begin, max(self.windows[position].end for position in positions) - begin)
 
 
-def shared_minutes(one: Window, other: Window) -> tuple:
-    """The minutes that two overlapping windows share: the first of them, and the one after the last."""
+def shared_time(one: Window, other: Window) -> tuple:
+    """When two overlapping windows can hand over: from the greater offset to the smaller end."""
     return max(one.offset, other.offset), min(one.end, other.end)

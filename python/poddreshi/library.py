@@ -21,13 +21,13 @@ class Query(ctypes.Structure):
 _PAGE = (ctypes.POINTER(Query), ctypes.c_size_t)  # records lent to be filled
 _AT = (ctypes.c_size_t,)
 _FIELD = (ctypes.c_uint16,)
-_MINUTES = (ctypes.c_uint32,)
+_TIME = (ctypes.c_uint32,)
 
 CALLS = {
     "validate": _READ,
     "build": _READ + 5 * _TABLE + _BYTES,
     "tags": _READ + _BYTES,
-    "add": _READ + _FIELD + 2 * _MINUTES + 2 * _BYTES,
+    "add": _READ + _FIELD + 2 * _TIME + 2 * _BYTES,
     "withdraw": _READ + _FIELD + _AT + 2 * _BYTES,
     "reach": _READ + _AT,
     "chain": _READ + 2 * _AT + _TABLE,

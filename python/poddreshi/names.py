@@ -1,5 +1,5 @@
 """The names of a plan's windows, from the plan's own text or from lines of a position and a name."""
-from typing import List, Optional
+from typing import List, Optional, Tuple
 
 from .failures import Mistake
 from .plans import Window
@@ -32,17 +32,20 @@ class Names(list):
         raise Mistake(f"there is no window {cited(word)}; {hint}")
 
 
-def read(data: bytes, windows: List[Window], clock: Clock) -> Names:
-    """The names in a file. It is the plan's text where its windows are the plan's; otherwise lines of a position and a name."""
-    return _of_text(data, windows, clock) or _of_lines(data, windows)
+def read(data: bytes, windows: List[Window], clock: Clock) -> Tuple[Names, Clock]:
+    """The names in a file, and the clock. It is the plan's text where its windows are the plan's, and a unit that it states is
+    then the plan's too; otherwise lines of a position and a name."""
+    return _of_text(data, windows, clock) or (_of_lines(data, windows), clock.checked())
 
 
-def _of_text(data: bytes, windows: List[Window], clock: Clock) -> Optional[Names]:
-    entries, _, faults = parse(data, clock)
-    entries.sort(key=lambda entry: entry.window.offset)
-    if faults or [entry.window for entry in entries] != windows:
+def _of_text(data: bytes, windows: List[Window], clock: Clock) -> Optional[Tuple[Names, Clock]]:
+    text = parse(data, clock)
+    if text.disputed:
+        raise Faulty(text.disputed)
+    entries = sorted(text.entries, key=lambda entry: entry.window.offset)
+    if text.faults or [entry.window for entry in entries] != windows:
         return None
-    return Names([entry.name for entry in entries])
+    return Names([entry.name for entry in entries]), text.clock
 
 
 def _of_lines(data: bytes, windows: List[Window]) -> Names:
@@ -55,7 +58,7 @@ def _of_lines(data: bytes, windows: List[Window]) -> Names:
 
 def _put(names: Names, seen: dict, row: Row) -> None:
     if len(row.cells) != 2 or not NUMBER.fullmatch(row.cells[0]):
-        whose = "the file is the text of just this plan (which takes --origin where it has dates)"
+        whose = "the file is the text of just this plan (which takes --origin where it has dates, and the plan's --unit)"
         raise ValueError(f"a line of names has a position and a name, unless {whose}")
     position = int(row.cells[0])
     if position >= len(names):

@@ -5,11 +5,12 @@ Nothing is judged here, only placed: which windows overlap, a window's parent an
 import itertools
 from typing import Dict, FrozenSet, List, NamedTuple, Optional, Sequence, Tuple
 
-from .axes import Axis, marks
+from .axes import LABEL, Axis, apart, label_width, marks
 from .calls import Tree
 from .figures import END_LIMIT
-from .given import Given, shared_minutes
+from .given import Given, shared_time
 from .svg import Drawing, width
+from .times import Clock
 from .wording import counted
 
 COLOURS = ("#0072b2", "#d55e00", "#009e73", "#cc79a7", "#8a6d00", "#56b4e9", "#5b3a9e", "#7f7f7f")
@@ -27,7 +28,7 @@ class Scene(NamedTuple):
     shown: Sequence[int]
     ends: Optional[Tuple[int, int]] = None
     chain: Optional[Sequence[int]] = None
-    span: Tuple[int, int] = (0, END_LIMIT)  # minutes to which the picture is cut
+    span: Tuple[int, int] = (0, END_LIMIT)  # to which the picture is cut
     chart: float = 1000  # width of the bars' part
     reach: bool = False  # the ends are the farthest two windows of their component
 
@@ -74,8 +75,8 @@ def description(scene: Scene) -> str:
 def draw(scene: Scene) -> str:
     """The picture as SVG."""
     row, rows = next((row, rows) for limit, row, rows in ROWS if limit is None or len(scene.shown) <= limit)
-    # Room for positions, and for names up to a point.
-    longest = max([64, *(width(_label(scene, at), _font(row)) for at in scene.shown)])
+    # Room for names up to a point.
+    longest = max([_before_axis(scene), *(width(_label(scene, at), _font(row)) for at in scene.shown)])
     left = MARGIN + min(longest, 220) + 10
     right = left + scene.chart
     wide = right + 150 + MARGIN
@@ -94,6 +95,12 @@ def draw(scene: Scene) -> str:
         _handovers(drawing, scene, panel)
         top = panel.bottom + BELOW
     return drawing.finish(wide, top + MARGIN, title(scene), description(scene))
+
+
+def _before_axis(scene: Scene) -> float:
+    """Room for positions, and for the unit in the corner, so that half of the axis's first label can stand behind it."""
+    end, corner = max((scene.plan.windows[at].end for at in scene.shown), default=0), width(_corner(scene.plan.clock)[1], LABEL)
+    return max(64, corner + label_width(end, scene.plan.clock) / 2 - 6 if corner else 0)
 
 
 def _label(scene: Scene, position: int) -> str:
@@ -140,16 +147,21 @@ def _bands(drawing: Drawing, scene: Scene, panel: Panel, wide: float) -> None:
         drawing.text(beside, top + panel.row / 2 + size / 3, f"component {component}", size, GREY, wide - beside - MARGIN)
 
 
+def _corner(clock: Clock) -> Tuple[str, str]:
+    """What the marks of an axis are: words before the dates, and words before the labels."""
+    return ("date", "time") if clock.origin else ("", str(clock.unit or ""))
+
+
 def _axis(drawing: Drawing, scene: Scene, panel: Panel) -> None:
-    axis = panel.axis
-    units = ("", "minutes") if scene.plan.clock.origin is None else ("date", "time")
-    for unit, above in zip(units, (22, 9)):
-        drawing.text(MARGIN, panel.top - above, unit, 11, GREY, axis.left - MARGIN)
-    for mark in marks(axis, scene.plan.clock):
-        x = axis.place(mark.minute)
+    axis, clock = panel.axis, scene.plan.clock
+    for words, above in zip(_corner(clock), (22, 9)):
+        drawing.text(MARGIN, panel.top - above, words, LABEL, GREY, axis.left - MARGIN)
+    room = apart(axis, clock)
+    for mark in marks(axis, clock):
+        x = axis.place(mark.number)
         drawing.line(x, panel.top - 4, x, panel.bottom + 4, FAINT)
-        drawing.text(x, panel.top - 9, mark.label, 11, GREY, 74, "middle")
-        drawing.text(x, panel.top - 22, mark.date, 11, GREY, 74, "middle")
+        drawing.text(x, panel.top - 9, mark.label, LABEL, GREY, room, "middle")
+        drawing.text(x, panel.top - 22, mark.date, LABEL, GREY, room, "middle")
     for stretch in axis.stretches:
         if stretch.cut:
             _cut(drawing, scene, panel, stretch)
@@ -172,8 +184,8 @@ def _cut(drawing: Drawing, scene: Scene, panel: Panel, stretch) -> None:
 
 
 def _parents(drawing: Drawing, scene: Scene, panel: Panel) -> None:
-    """The parent covers the minute at which the window begins, so the line stands on that minute. To a parent in an earlier
-    panel it leads up out of this one."""
+    """The parent covers the time at which the window begins, so the line stands there. To a parent in an earlier panel it leads
+    up out of this one."""
     opacity = 0.3 if scene.ends is not None else 0.75
     for position in panel.rows:
         parent, offset = scene.tree.parents[position], scene.plan.windows[position].offset
@@ -217,18 +229,18 @@ def _bar(drawing: Drawing, scene: Scene, panel: Panel, position: int) -> None:
 
 
 def _handovers(drawing: Drawing, scene: Scene, panel: Panel) -> None:
-    """A handover stands in the middle of the minutes that its two windows share. One that leads to another panel goes to the
-    edge of this one."""
+    """A handover stands in the middle of the time that its two windows share. One that leads to another panel goes to the edge of
+    this one."""
     chain = scene.chain or ()
     for later, earlier in zip(chain, chain[1:]):
-        minute = sum(shared_minutes(scene.plan.windows[later], scene.plan.windows[earlier])) / 2
-        if not panel.axis.start <= minute <= panel.axis.end:
+        middle = sum(shared_time(scene.plan.windows[later], scene.plan.windows[earlier])) / 2
+        if not panel.axis.start <= middle <= panel.axis.end:
             continue
         here = [at for at in (later, earlier) if at in panel.rows]
         ends = [panel.middle(at) for at in here]
         if len(here) == 1:
             ends.append(panel.top - 4 if here[0] > min(later, earlier) else panel.bottom + 4)
-        x = panel.axis.place(minute)
+        x = panel.axis.place(middle)
         if here:
             drawing.line(x, ends[0], x, ends[1], INK, 2)
         for at in here:

@@ -22,7 +22,7 @@ def pack(number: int, windows: Iterable[Window], minimum: int = MINIMUM_LEAST) -
 
 
 def minimum_of(file) -> int:
-    """The minimum handover of an accepted plan, in minutes."""
+    """The minimum handover of an accepted plan."""
     return HEADER.unpack_from(file)[2]
 
 

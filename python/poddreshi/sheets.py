@@ -2,7 +2,7 @@
 from typing import List, NamedTuple, Optional, Sequence, Tuple, Union
 
 from . import calls
-from .given import Given, shared_minutes
+from .given import Given, shared_time
 from .replies import Reply, aligned
 from .texts import Fault, Faulty, Row, clean, read_rows, words_of
 from .wording import counted
@@ -68,8 +68,7 @@ def steps(plan: Given, trip: Trip) -> List[list]:
     for at, position in enumerate(trip.chain or ()):
         shared = ["", ""]
         if at + 1 < len(trip.chain):
-            minutes = shared_minutes(plan.windows[position], plan.windows[trip.chain[at + 1]])
-            shared = [plan.clock.show(minute) for minute in minutes]
+            shared = list(map(plan.clock.show, shared_time(plan.windows[position], plan.windows[trip.chain[at + 1]])))
         rows.append([*plan.shown(position), *shared])
     return rows
 

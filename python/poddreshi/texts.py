@@ -1,14 +1,16 @@
 """A planner's text: a line for each window, or CSV with a header. Every fault of a text is found, by line.
 
     # offset length [name]; what follows a # is left out
+    unit minutes                        what the numbers count, or `unit seconds`; no line need state it
     minimum 30                          the plan's minimum handover, 1 where no line states it
-    1440 480 North pier                 minutes
+    1440 480 North pier                 numbers
     2026-02-06 08:00 48h "Bay #3"       dates, with an origin; a name in quotes may hold a #
 """
 import csv
+import itertools
 import re
 import unicodedata
-from typing import Callable, Iterator, List, NamedTuple, Optional, Sequence, Tuple, Union
+from typing import Callable, Dict, Iterable, Iterator, List, NamedTuple, Optional, Sequence, Tuple, Union
 
 from . import calls, times
 from .failures import Mistake
@@ -16,14 +18,16 @@ from .figures import END_LIMIT, MINIMUM_LEAST, NUMBER_LIMIT, WINDOWS_LIMIT
 from .plans import Window, minimum_of, pack
 from .refusals import Asked, Refused, refusal
 from .replies import aligned
-from .times import Clock
+from .times import UNITS, Clock, Unit
 
 _QUOTED = r'(?:(?<=\s)|^)"(?:[^"]|"")*"(?=\s|$)'
 _QUOTED_OR_COMMENT = re.compile(_QUOTED + r"|(?:(?<=\s)|^)(#)")
 _WORD = re.compile(_QUOTED + r"|\S+")
 _LINE = re.compile(
-    r"(?P<offset>\d{4}-\d\d-\d\d(?:(?:\s+|T)\d\d?:\d\d)?|\S+)(?:\s+(?P<length>\S+)(?:\s+(?P<name>.+))?)?", re.ASCII
+    r"(?P<offset>\d{4}-\d\d-\d\d(?:(?:\s+|T)\d\d?:\d\d(?::\d\d)?)?|\S+)(?:\s+(?P<length>\S+)(?:\s+(?P<name>.+))?)?", re.ASCII
 )
+_COLUMNS = ("offset", "length", "name")
+_HEADED = {word: unit for unit in UNITS for word in (str(unit), *unit.short)}  # the words over a column that state a unit
 
 
 class Fault(NamedTuple):
@@ -55,7 +59,25 @@ class Minimum(NamedTuple):
     """The minimum handover that a text states, with its line; or that the command gives, with none."""
 
     line: Optional[int]
-    minutes: int
+    length: int
+
+
+class Stated(NamedTuple):
+    """The unit that a text states, with its line."""
+
+    line: int
+    unit: Unit
+
+
+class Text(NamedTuple):
+    """What a text holds: its windows in its order, its minimum handover where it states one, the clock by which it is read, and
+    all that is wrong in it; of that, what is said against its unit stands once more alone."""
+
+    entries: List[Entry]
+    minimum: Optional[Minimum]
+    clock: Clock
+    faults: List[Fault]
+    disputed: List[Fault]
 
 
 class Row(NamedTuple):
@@ -63,6 +85,13 @@ class Row(NamedTuple):
 
     line: int
     cells: List[str]
+
+
+class Table(NamedTuple):
+    """The rows of a text. Over those of CSV stands a header, which has what follows the name of each column."""
+
+    rows: List[Row]
+    header: Optional[Row] = None
 
 
 def _lines_of(data: bytes) -> Tuple[List[str], List[Fault]]:
@@ -106,15 +135,17 @@ def clean(name: str) -> str:
     return name
 
 
-def _header(line: List[str], delimiter: str) -> List[str]:
-    """The first word of each cell: "Offset (minutes)" is an offset too."""
+def _header(line: List[str], delimiter: str) -> Dict[str, Tuple[int, str]]:
+    """For the first word of each cell its place, and the words that follow: "Offset (minutes)" is an offset too."""
     try:
-        return [(cell.lower().split() or [""])[0] for cell in next(csv.reader(line, delimiter=delimiter), [])]
+        cells = [cell.lower().split(None, 1) for cell in next(csv.reader(line, delimiter=delimiter), [])]
     except csv.Error:  # a zero byte, or a cell of great length
-        return []
+        return {}
+    places = reversed(list(enumerate(cells)))  # so that of two of one name the first is kept
+    return {cell[0]: (at, "".join(cell[1:])) for at, cell in places if cell}
 
 
-def _csv_rows(lines: List[str], columns: Sequence[str], wanted: int, faults: List[Fault]) -> Optional[List[Row]]:
+def _csv_table(lines: List[str], columns: Sequence[str], wanted: int, faults: List[Fault]) -> Optional[Table]:
     """The rows of CSV in the order of `columns`, or None where the first line is no header with the first `wanted` of them.
     What is wrong is added to the faults."""
     start = next((at for at, line in enumerate(lines) if _uncommented(line)), len(lines))
@@ -124,14 +155,14 @@ def _csv_rows(lines: List[str], columns: Sequence[str], wanted: int, faults: Lis
             break
     else:
         return None
-    places = [header.index(column) if column in header else None for column in columns]
+    places, behind = zip(*(header.get(column, (None, "")) for column in columns))
     kept = ["\n" if line.lstrip().startswith("#") else line + "\n" for line in lines[start + 1 :]]
     rows, reader = [], csv.reader(kept, delimiter=delimiter, strict=True)
     while True:
         try:
             cells = next(reader)
         except StopIteration:
-            return rows
+            return Table(rows, Row(start + 1, list(behind)))
         except csv.Error as error:
             faults.append(Fault(start + 1 + reader.line_num, f"is no line of CSV: {error}"))
             continue
@@ -140,18 +171,30 @@ def _csv_rows(lines: List[str], columns: Sequence[str], wanted: int, faults: Lis
             rows.append(Row(start + 1 + reader.line_num, taken))
 
 
-def read_rows(data: bytes, columns: Sequence[str], wanted: int, split: Callable, take: Callable) -> Tuple[list, List[Fault]]:
-    """What `take` makes of each row, and the rows of which it makes nothing. They are those of CSV, or of lines that `split`
-    makes cells of."""
+def _table(data: bytes, columns: Sequence[str], wanted: int, split: Callable) -> Tuple[Table, List[Fault]]:
+    """The rows of CSV, or of lines that `split` makes cells of, and the lines that are neither."""
     lines, faults = _lines_of(data)
-    rows, taken = _csv_rows(lines, columns, wanted, faults), []
-    if rows is None:
-        rows = [Row(number, split(line)) for number, line in enumerate(map(_uncommented, lines), 1) if line]
+    table = _csv_table(lines, columns, wanted, faults)
+    if table is None:
+        table = Table([Row(number, split(line)) for number, line in enumerate(map(_uncommented, lines), 1) if line])
+    return table, faults
+
+
+def _take(rows: Iterable[Row], take: Callable, faults: List[Fault]) -> list:
+    """What `take` makes of each row. The rows of which it makes nothing are added to the faults."""
+    taken = []
     for row in rows:
         try:
             taken.append(take(row))
         except (ValueError, Mistake, Refused) as error:
             faults.append(Fault(row.line, str(error)))
+    return taken
+
+
+def read_rows(data: bytes, columns: Sequence[str], wanted: int, split: Callable, take: Callable) -> Tuple[list, List[Fault]]:
+    """What `take` makes of each row of CSV, or of lines that `split` makes cells of, and the rows of which it makes nothing."""
+    table, faults = _table(data, columns, wanted, split)
+    taken = _take(table.rows, take, faults)
     return taken, sorted(faults, key=lambda fault: fault.line)
 
 
@@ -166,14 +209,22 @@ def _fitting(number: int, what: str) -> int:
     return number
 
 
-def minutes(word: str) -> int:
-    """A minimum handover: minutes, or a length with units."""
-    return _fitting(times.length(word), "a minimum handover")
+def _minimum(word: str, clock: Clock) -> int:
+    """A minimum handover: a number, or a length with letters."""
+    return _fitting(clock.length(word), "a minimum handover")
+
+
+def minimum_given(word: Optional[str], clock: Clock) -> Optional[int]:
+    """That of the command, where it has one. It is read by the unit, so it can be wrong only when that is known."""
+    try:
+        return None if word is None else _minimum(word, clock)
+    except ValueError as error:
+        raise Mistake(f"argument --minimum: {error}") from None
 
 
 def window(offset: str, length: str, clock: Clock) -> Window:
     """A window from its two words."""
-    return Window(_fitting(clock.offset(offset), "an offset"), _fitting(times.length(length), "a length"))
+    return Window(_fitting(clock.offset(offset), "an offset"), _fitting(clock.length(length), "a length"))
 
 
 def _taken(row: Row, clock: Clock) -> Union[Entry, Minimum]:
@@ -181,19 +232,52 @@ def _taken(row: Row, clock: Clock) -> Union[Entry, Minimum]:
     if offset.lower() == "minimum":
         if not length or name:
             raise ValueError("the line of the minimum handover has a length and nothing more: minimum 30, or minimum 2h")
-        return Minimum(row.line, minutes(length))
+        return Minimum(row.line, _minimum(length, clock))
     if not offset or not length:
         hint = "; CSV begins with a line offset,length,name" if set(offset) & set(",;") else ""
         raise ValueError(f"a line has an offset and a length, and may have a name{hint}")
     return Entry(row.line, window(offset, length, clock), clean(name))
 
 
-def parse(data: bytes, clock: Clock) -> Tuple[List[Entry], Optional[Minimum], List[Fault]]:
-    """The windows of a text, in its order, the minimum handover where it states one, and the lines that are neither."""
-    taken, faults = read_rows(data, ("offset", "length", "name"), 2, _cells, lambda row: _taken(row, clock))
+def _states_unit(row: Row) -> bool:
+    return row.cells[0].lower() == "unit"
+
+
+def _stated(row: Row) -> Stated:
+    _, word, more = row.cells
+    if not word or more:
+        raise ValueError(f"the line of the unit is {' or '.join(f'unit {unit}' for unit in UNITS)}, and nothing more")
+    return Stated(row.line, times.unit(word.lower()))
+
+
+def _headed(header: Optional[Row]) -> List[Stated]:
+    """The units over the columns of offsets and lengths: `Offset (seconds)`, `Length [min]`."""
+    words = [word.strip("()[],;:.") for cell in (header.cells[:2] if header else ()) for word in cell.split()]
+    return [Stated(header.line, _HEADED[word]) for word in words if word in _HEADED]
+
+
+def _agreed(stated: List[Stated], given: Optional[Unit]) -> Tuple[Optional[Unit], List[Fault]]:
+    """The unit of a text: the first that it states, or else the given one; and every line that is against that."""
+    if not stated:
+        return given, []
+    first = stated[0]
+    others = [each for each in stated if each.unit != first.unit]
+    disputed = [Fault(each.line, f"the unit is {each.unit} here, and {first.unit} on line {first.line}") for each in others]
+    if given not in (None, first.unit):
+        disputed.append(Fault(first.line, f"the unit is {first.unit} here, and {given} by --unit"))
+    return first.unit, disputed
+
+
+def parse(data: bytes, clock: Clock) -> Text:
+    """What a text holds, read by the unit that it states, wherever it does, or else by that of the clock."""
+    table, faults = _table(data, _COLUMNS, 2, _cells)
+    stated = _headed(table.header) + _take(filter(_states_unit, table.rows), _stated, faults)
+    unit, disputed = _agreed(stated, clock.unit)
+    clock = clock._replace(unit=unit).checked()
+    taken = _take(itertools.filterfalse(_states_unit, table.rows), lambda row: _taken(row, clock), faults)
     first, *more = [each for each in taken if isinstance(each, Minimum)] or [None]
     faults += [Fault(each.line, f"the minimum handover is stated on line {first.line}") for each in more]
-    return [each for each in taken if isinstance(each, Entry)], first, faults
+    return Text([each for each in taken if isinstance(each, Entry)], first, clock, faults + disputed, disputed)
 
 
 def _refusals(entries: List[Entry], file: bytes) -> Iterator[Fault]:
@@ -212,7 +296,7 @@ def _refusals(entries: List[Entry], file: bytes) -> Iterator[Fault]:
 def _ask_minimum(minimum: Minimum, faults: List[Fault]) -> None:
     """Of a minimum that is refused no window can be asked."""
     try:
-        calls.validate(pack(0, [], minimum.minutes))
+        calls.validate(pack(0, [], minimum.length))
     except Refused as no:
         if minimum.line is None:
             raise
@@ -220,18 +304,19 @@ def _ask_minimum(minimum: Minimum, faults: List[Fault]) -> None:
 
 
 def make(
-    number: int, data: bytes, clock: Clock, sort: bool = False, empty: bool = False, minimum: Optional[int] = None
+    number: int, data: bytes, clock: Clock, sort: bool = False, empty: bool = False, minimum: Optional[str] = None
 ) -> Tuple[bytes, List[Entry]]:
     """The plan file of a text, and its entries by position. All that is wrong is raised at once, as Faulty. A minimum that is
     given takes the place of the text's."""
-    entries, stated, faults = parse(data, clock)
+    entries, stated, clock, faults, _ = parse(data, clock)
+    given = minimum_given(minimum, clock)
     if not entries and not faults and not empty:
         raise Faulty([Fault(1, "the text has no window; --empty makes a plan of none")])
     if sort:
         entries.sort(key=lambda entry: entry.window.offset)
-    used = Minimum(None, minimum) if minimum is not None else stated or Minimum(None, MINIMUM_LEAST)
+    used = Minimum(None, given) if given is not None else stated or Minimum(None, MINIMUM_LEAST)
     _ask_minimum(used, faults)
-    file = pack(number, [entry.window for entry in entries], used.minutes)
+    file = pack(number, [entry.window for entry in entries], used.length)
     faults += _refusals(entries, file)
     try:
         calls.validate(file)
@@ -247,4 +332,5 @@ def write(windows: List[Window], names: List[str], minimum: int, clock: Clock) -
     """The lines of a text, aligned."""
     each = zip(windows, names)
     rows = [(clock.show(window.offset), clock.show_length(window.length), quoted(name)) for window, name in each]
-    return f"minimum {clock.show_length(minimum)}\n" + aligned(rows, right=(0, 1), between=" ")
+    unit = "" if clock.unit is None else f"unit {clock.unit}\n"
+    return f"{unit}minimum {clock.show_length(minimum)}\n" + aligned(rows, right=(0, 1), between=" ")

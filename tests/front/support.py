@@ -38,6 +38,7 @@ SHORT_TAGS = bytes.fromhex(
     "0e00000002000300" "0e00000003000000" "0e00010000000100" "0e00010001000000"
 )
 BOLTING = (EXAMPLES / "bolting.plan").read_bytes()  # plan 21, with a minimum of 30
+SHIFT = (EXAMPLES / "shift.plan").read_bytes()  # plan 52, in seconds, with a minimum of 90
 PLAN_31 = EXAMPLES / "plan-31.plan"
 END_LIMIT = 2**32 - 1
 NAMED = ("--names", EXAMPLES / "year.txt", "--origin", "2026-01-01")

@@ -176,7 +176,7 @@ class Commands(Case):
             self.text("same", self.plan, EXAMPLES / "plan-31.plan"),
             "different: the first plan has 7 windows and the second 48 windows; "
             "windows 0 and 3 overlap in the first plan and not in the second; "
-            "the minimum handover of the first plan is 1 minute and that of the second 15 minutes\n",
+            "the minimum handover of the first plan is 1 and that of the second 15\n",
         )
         told = "different: the first plan has 7 windows and the second 8 windows\n"
         self.assertEqual(self.text("same", self.plan, "-", stdin=b"\x0c\0\x08" + PLAN_12[3:] + plan((99, 1))[8:]), told)

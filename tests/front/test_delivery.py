@@ -44,7 +44,7 @@ class Installed(Case):
         self.assertEqual(self.there("tags", "--short", EXAMPLES / "even.plan"), SHORT_TAGS)
         self.assertEqual(self.there("chain", self.plan, 1, 5), b"5 4 2 1\n")
         self.assertEqual(self.there("reach", self.plan, 1), b"3: from 0 to 5\n")
-        self.assertEqual(self.there("margin", self.plan, 0, 4), b"2 minutes apart\n")
+        self.assertEqual(self.there("margin", self.plan, 0, 4), b"2 apart\n")
         self.assertEqual(self.there("withdraw", self.plan, 13, 6, "-o", "13.plan", "--tags", "13.tags")[:19], b"plan 13, 6 windows,")
         self.assertEqual(self.there("tags", "13.plan"), (self.folder / "13.tags").read_bytes())
         self.assertIn(b"<svg", self.there("draw", self.plan, 1, 5))

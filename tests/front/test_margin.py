@@ -180,19 +180,19 @@ class Command(Forms):
 class Answers(Command):
     def test_text(self):
         for pair, told in {
-            (0, 1): "shares 3 minutes",
-            (0, 3): "shares 1 minute",
+            (0, 1): "shares 3",
+            (0, 3): "shares 1",
             (4, 6): "touches",
             (5, 6): "touches",
-            (2, 5): "1 minute apart",
-            (1, 3): "4 minutes apart",
-            (0, 0): "shares 10 minutes",
-            (5, 5): "shares 1 minute",
+            (2, 5): "1 apart",
+            (1, 3): "4 apart",
+            (0, 0): "shares 10",
+            (5, 5): "shares 1",
         }.items():
             self.assertEqual(self.text(self.plan, *pair), told + "\n")
             self.assertEqual(self.text(self.plan, *pair[::-1]), told + "\n")
-        self.assertEqual(self.text("-", 0, 1, stdin=FARTHEST), "4,294,967,293 minutes apart\n")
-        self.assertEqual(self.text("-", 0, 0, stdin=LONGEST), "shares 4,294,967,295 minutes\n")
+        self.assertEqual(self.text("-", 0, 1, stdin=FARTHEST), "4,294,967,293 apart\n")
+        self.assertEqual(self.text("-", 0, 0, stdin=LONGEST), "shares 4,294,967,295\n")
 
     def test_the_bare_number(self):
         for first, second in itertools.product(range(7), repeat=2):
@@ -205,11 +205,11 @@ class Answers(Command):
 
     def test_fewer_minutes_than_the_minimum(self):
         bolting = self.file("21.plan", BOLTING)
-        self.assertEqual(self.text(bolting, 0, 2), "shares 10 minutes\n")
+        self.assertEqual(self.text(bolting, 0, 2), "shares 10\n")
         self.assertEqual(self.answers("chain", bolting, 0, 2), b"2 1 0\n")
         help = " ".join(self.text("--help").split())
-        self.assertIn("share at least the plan's minimum handover; those that share fewer minutes do not overlap.", help)
-        self.assertIn("--number answer as the bare number of minutes, below 0 where they lie apart", help)
+        self.assertIn("share at least the plan's minimum handover; those that share less do not overlap.", help)
+        self.assertIn("--number answer as the bare number, below 0 where they lie apart", help)
 
     def test_csv(self):
         told = "first,second,margin,first_name,first_begin,first_end,second_name,second_begin,second_end\n"
@@ -241,7 +241,7 @@ class Answers(Command):
         self.assertEqual(self.text(self.plan, 4, 6, "--origin", "2026-02-06"), touching)
         names = self.file("names", "4 Quay\n0 North pier\n")
         told = self.text(self.plan, "Quay", "North pier", "--names", names)
-        self.assertEqual(told, "2 minutes apart\n4  Quay        12  18\n0  North pier  0   10\n")
+        self.assertEqual(told, "2 apart\n4  Quay        12  18\n0  North pier  0   10\n")
 
     def test_names_and_dates_for_other_programs(self):
         (row,) = self.rows(self.year, 9, "Tank yard, drill rig", *NAMED)
@@ -304,13 +304,13 @@ class Neighbours(Forms):
     def test_text(self):
         self.assertEqual(
             self.text(self.plan, 2, "--margins"),
-            "0  shares 6 minutes\n1  shares 1 minute\n3  shares 2 minutes\n4  shares 4 minutes\n",
+            "0  shares 6\n1  shares 1\n3  shares 2\n4  shares 4\n",
         )
         self.assertEqual(self.text(self.plan, 6, "--margins"), "none\n")
         last = self.text("-", 10, "--margins", stdin=line_plan())
-        self.assertEqual(last, " 9  shares 1 minute\n11  shares 1 minute\n")
-        self.assertEqual(self.text("-", 0, "--margins", stdin=BOLTING), "1  shares 40 minutes\n")  # and not 2, which shares ten
-        self.assertEqual(self.text("-", 0, "--margins", stdin=plan((0, 2000), (0, 1500))), "1  shares 1,500 minutes\n")
+        self.assertEqual(last, " 9  shares 1\n11  shares 1\n")
+        self.assertEqual(self.text("-", 0, "--margins", stdin=BOLTING), "1  shares 40\n")  # and not 2, which shares ten
+        self.assertEqual(self.text("-", 0, "--margins", stdin=plan((0, 2000), (0, 1500))), "1  shares 1,500\n")
 
     def test_csv(self):
         told = "window,name,begin,end,margin\n0,,0,10,6\n1,,2,5,1\n3,,9,11,2\n4,,12,18,4\n"
@@ -337,8 +337,8 @@ class Neighbours(Forms):
         self.assertEqual([each["margin"] for each in self.data(self.year, 9, "--margins", *NAMED)["neighbours"]], [1080, 720, 360])
         names = self.file("names", "2 Quay\n0 North pier\n")
         told = self.text(self.plan, "Quay", "--margins", "--names", names).splitlines()
-        self.assertEqual(told[0], "0  North pier  0   10  shares 6 minutes")
-        self.assertEqual(told[1].split(), "1 2 5 shares 1 minute".split())
+        self.assertEqual(told[0], "0  North pier  0   10  shares 6")
+        self.assertEqual(told[1].split(), "1 2 5 shares 1".split())
         dated = self.text(self.plan, 2, "--margins", "--origin", "2026-02-06").splitlines()
         self.assertEqual(dated[3], "4    2026-02-06 00:12  2026-02-06 00:18  shares 4m")
 

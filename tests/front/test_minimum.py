@@ -111,7 +111,7 @@ class Plan(Case):
         for line, words in {
             "minimum": alone,
             "minimum 2 hours": alone,
-            "minimum half": '"half" is no length; write minutes (90), or days, hours and minutes (2d, 48h, 1h30m)',
+            "minimum half": '"half" is no length; write a number (90), or numbers with letters (2d, 48h, 1h30m)',
             "minimum 4294967296": "a minimum handover of 4,294,967,296 does not fit a plan file, which holds up to 4,294,967,295",
         }.items():
             self.says(1, f"standard input, line 3: {words}", "plan", 12, "-", stdin=self.TEXT + line.encode() + b"\n")
@@ -137,7 +137,7 @@ class Shown(Case):
     def test_text(self):
         self.assertEqual(
             self.answers("text", self.plan, "--names", EXAMPLES / "bolting.txt").decode().splitlines()[:3],
-            ["# plan 21, 4 windows: offset and length in minutes", "minimum 30", " 0 60 Crane yard"],
+            ["# plan 21, 4 windows: offset and length", "minimum 30", " 0 60 Crane yard"],
         )
         dated = self.answers("text", self.plan, "--origin", "2026-02-06").decode().splitlines()
         self.assertEqual(dated[1:3], ["minimum 30m", "2026-02-06 00:00    1h"])
@@ -180,7 +180,7 @@ class Shown(Case):
         self.assertEqual(
             self.answers("same", joined, apart).decode(),
             "different: windows 0 and 1 overlap in the first plan and not in the second; "
-            "the minimum handover of the first plan is 5 minutes and that of the second 6 minutes\n",
+            "the minimum handover of the first plan is 5 and that of the second 6\n",
         )
         self.assertEqual(json.loads(self.answers("same", joined, apart, "--json"))["minimums"], [5, 6])
         self.assertEqual(self.answers("same", joined, "-", stdin=plan(*PAIR)), b"same\n")
@@ -189,14 +189,14 @@ class Shown(Case):
         told = self.answers("chains", self.plan, "-", stdin=b"Rig 0 2\n").decode()
         steps = [" ".join(line.split()) for line in told.splitlines()[1:4]]
         self.assertEqual(steps, ["0 0 to 60 hand over 20 to 60", "1 20 to 110 hand over 50 to 110", "2 50 to 120"])
-        self.assertTrue(told.endswith("2 handovers in all, at most 2 (Rig), minimum handover 30 minutes\n"))
+        self.assertTrue(told.endswith("2 handovers in all, at most 2 (Rig), minimum handover 30\n"))
         page = self.answers("chains", self.plan, "-", "--html", "--origin", "2026-02-06", stdin=b"Rig 0 2\n").decode()
         self.assertIn("at most 2 (Rig), minimum handover 30m</p>", page)
 
     def test_title(self):
         for words, told in {
-            (): "Plan 21, minimum handover 30 minutes: 4 windows, 1 component",
-            (0, 2): "Plan 21, minimum handover 30 minutes: 2 handovers between window 0 and window 2",
+            (): "Plan 21, minimum handover 30: 4 windows, 1 component",
+            (0, 2): "Plan 21, minimum handover 30: 2 handovers between window 0 and window 2",
             (0, 2, "--origin", "2026-02-06"): "Plan 21, minimum handover 30m: 2 handovers between window 0 and window 2",
         }.items():
             sheet = ET.fromstring(self.answers("draw", self.plan, *words))

@@ -8,7 +8,7 @@ from support import EXAMPLES, PLAN_12, Case, plan, random_windows
 import poddreshi
 from poddreshi import names, texts
 from poddreshi.texts import Faulty
-from poddreshi.times import Clock
+from poddreshi.times import MINUTES, SECONDS, Clock
 
 ORIGIN = Clock(datetime(2026, 1, 1))
 
@@ -49,7 +49,7 @@ class Reading(unittest.TestCase):
             self.assertEqual(made(text), ([(0, 10), (2, 3)], ["North pier", 'Bay #3, "old"']))
         self.assertEqual(made("length,offset\n1h,2026-01-01 08:00\n", ORIGIN)[0], [(480, 60)])
         self.assertEqual(faults("offset,length\n1,2\n3,x\n4\n\"5,6\n"), [
-            'line 3: "x" is no length; write minutes (90), or days, hours and minutes (2d, 48h, 1h30m)',
+            'line 3: "x" is no length; write a number (90), or numbers with letters (2d, 48h, 1h30m)',
             "line 4: a line has an offset and a length, and may have a name",
             "line 6: is no line of CSV: unexpected end of data",
         ])
@@ -71,12 +71,12 @@ class Faults(unittest.TestCase):
             "line 2: refused by question 4: window 1 of the plan has length 0; a length is at least the minimum handover, 1",
             "line 2: refused by question 6: window 1 of the plan begins at 4, earlier than the window before it, at 5",
             "line 3: a line has an offset and a length, and may have a name",
-            'line 4: "x" is no offset; write minutes (1440) or a date (2026-02-06 08:00)',
-            'line 5: "x" is no length; write minutes (90), or days, hours and minutes (2d, 48h, 1h30m)',
+            'line 4: "x" is no offset; write a number (1440) or a date (2026-02-06 08:00)',
+            'line 5: "x" is no length; write a number (90), or numbers with letters (2d, 48h, 1h30m)',
             "line 6: is no text in UTF-8",
             "line 7: refused by question 6: window 2 of the plan begins at 3, earlier than the window before it, at 4",
             "line 8: refused by question 5: window 3 of the plan ends at 4,294,967,296; an end is at most 4,294,967,295",
-            'line 9: "2026-01-01 08:00" is a date; say with --origin which date minute 0 is',
+            'line 9: "2026-01-01 08:00" is a date; say with --origin which date 0 is',
             "line 10: an offset of 4,294,967,296 does not fit a plan file, which holds up to 4,294,967,295",
             "line 11: a length of 4,294,967,296 does not fit a plan file, which holds up to 4,294,967,295",
             "line 12: a name has no control characters",
@@ -108,7 +108,7 @@ class Faults(unittest.TestCase):
             'line 1: "2025-12-31" lies before the origin, 2026-01-01 00:00',
             'line 2: "2026-02-30" is no date of the calendar',
             'line 3: "2026-01-01 24:00" is no date of the calendar',
-            'line 4: "1h30" is no length; write minutes (90), or days, hours and minutes (2d, 48h, 1h30m)',
+            'line 4: "1h30" is no length; write a number (90), or numbers with letters (2d, 48h, 1h30m)',
         ])
 
     def test_too_many_windows(self):
@@ -123,7 +123,8 @@ class Faults(unittest.TestCase):
 class RoundTrip(Case):
     def test_random_plans(self):
         generator = random.Random(13)
-        origins = [Clock(), ORIGIN, Clock(datetime(1999, 12, 31, 23, 59))]
+        origins = [Clock(), ORIGIN, Clock(datetime(1999, 12, 31, 23, 59)), Clock(datetime(1999, 12, 31, 23, 59, 58), SECONDS)]
+        origins += [Clock(unit=MINUTES), Clock(unit=SECONDS)]
         shown = ["", "North pier", "Bay #3", '"quoted"', 'half"', "# hash", "a  b", "Kürs 7", "12 30", "2026-01-01"]
         for case in range(300):
             count = generator.choice([0, 1, 2, 7, 40])
@@ -157,7 +158,7 @@ class RoundTrip(Case):
     def test_faults_by_the_command(self):
         self.says(
             1,
-            'standard input, line 1: "x" is no offset; write minutes (1440) or a date (2026-02-06 08:00)\n'
+            'standard input, line 1: "x" is no offset; write a number (1440) or a date (2026-02-06 08:00)\n'
             "standard input, line 2: refused by question 4: window 0 of the plan has length 0; "
             "a length is at least the minimum handover, 1",
             *("plan", 1, "-"),
@@ -169,7 +170,8 @@ class Names(unittest.TestCase):
     WINDOWS = poddreshi.windows_of(PLAN_12)
 
     def read(self, text, clock=Clock()):
-        return list(names.read(text.encode(), self.WINDOWS, clock))
+        named, _ = names.read(text.encode(), self.WINDOWS, clock)
+        return list(named)
 
     def test_the_plans_own_text(self):
         lines = [f"{window.offset} {window.length} name {v}" for v, window in enumerate(self.WINDOWS)]

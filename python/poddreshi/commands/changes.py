@@ -2,14 +2,13 @@
 import os
 
 from .. import calls, files, texts
-from ..commandline import NAMES, ORIGIN, PLAN, command, forms, given, number, option, word
+from ..commandline import NAMES, ORIGIN, PLAN, UNIT, command, forms, given, number, option, word
 from ..failures import Mistake
 from ..figures import PLAN_NUMBER_LIMIT
 from ..given import Given
 from ..names import Names
 from ..plans import Window, windows_of
 from ..replies import Reply
-from ..times import Clock
 from ..wording import ranges
 
 _NUMBER = word("number", "the number of the changed plan, 0 to 65,535; another than that of PLAN")
@@ -42,9 +41,10 @@ def _number(args) -> int:
     return number(args.number, PLAN_NUMBER_LIMIT, "a plan number")
 
 
-def _window(args) -> Window:
+def _window(args, plan: Given) -> Window:
+    """The window of the command, read by the plan's clock."""
     try:
-        return texts.window(args.offset, args.length, Clock(args.origin))
+        return texts.window(args.offset, args.length, plan.clock)
     except ValueError as error:
         raise Mistake(str(error)) from None
 
@@ -78,13 +78,14 @@ def _reply(args, after: Given, changed: calls.Changed, done: str, window: dict) 
     "a plan file with a window more, and its tags",
     [
         *(PLAN, _NUMBER),
-        word("offset", "where the window begins: a minute, or a date with --origin"),
-        word("length", "minutes (90), or 48h"),
-        *(_TAGS, NAMES, ORIGIN, _FORMS),
+        word("offset", "where the window begins: a number, or a date with --origin"),
+        word("length", "a number (90), or 48h"),
+        *(_TAGS, NAMES, ORIGIN, UNIT, _FORMS),
     ],
     [
         "poddreshi add examples/plan-12.plan 13 20 5 -o plan-13.plan --tags plan-13.tags",
         'poddreshi add year.plan 41 "2026-02-04 08:00" 36h --names examples/year.txt --origin 2026-01-01 -o year-41.plan',
+        'poddreshi add examples/shift.plan 53 "2026-09-19 03:58:20" 1h5m30s --unit seconds --origin 2026-01-01 -o shift-53.plan',
         "poddreshi add examples/plan-12.plan 13 20 5 --csv -o plan-13.plan",
         "poddreshi add examples/plan-12.plan 13 20 5 | poddreshi withdraw - 14 3 -o plan-14.plan",
     ],
@@ -92,8 +93,8 @@ def _reply(args, after: Given, changed: calls.Changed, done: str, window: dict) 
 )
 def _add(args) -> Reply:
     _ask_outputs(args)
-    new, window, plan = _number(args), _window(args), given(args)
-    changed = calls.add(plan.file, new, *window)
+    new, plan = _number(args), given(args)
+    changed = calls.add(plan.file, new, *_window(args, plan))
     after, at = _after(plan, changed), changed.was.index(None)
     return _reply(args, after, changed, f"window {at} added", {"added": after.data(at)})
 
@@ -101,7 +102,7 @@ def _add(args) -> Reply:
 @command(
     "withdraw",
     "a plan file with a window less, and its tags",
-    [*(PLAN, _NUMBER), word("position", "a position in PLAN, or a name"), *(_TAGS, NAMES, ORIGIN, _FORMS)],
+    [*(PLAN, _NUMBER), word("position", "a position in PLAN, or a name"), *(_TAGS, NAMES, ORIGIN, UNIT, _FORMS)],
     [
         "poddreshi withdraw examples/plan-12.plan 13 3 -o plan-13.plan --tags plan-13.tags",
         'poddreshi withdraw year.plan 41 "Weir, lift" --names examples/year.txt --origin 2026-01-01 -o year-41.plan',

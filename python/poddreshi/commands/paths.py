@@ -3,16 +3,17 @@ import itertools
 from typing import Optional, Sequence, Tuple
 
 from .. import calls, files
-from ..commandline import NAMES, ORIGIN, PLAN, command, exit_code, forms, given, once, option, word
+from ..commandline import NAMES, ORIGIN, PLAN, UNIT, command, exit_code, forms, given, once, option, word
 from ..figures import PLAN_LIMIT
 from ..given import Given
 from ..plans import minimum_of
 from ..replies import Reply, aligned
+from ..times import Clock
 from ..wording import counted, ordinal
 
 _COLUMNS = ("window", "name", "begin", "end")
 _WINDOW = "a position, or a name"
-_MARGINS = "say of each how many minutes it shares with this one"
+_MARGINS = "say of each how much it shares with this one"
 
 
 def _columns_of(*ends: str) -> Tuple[str, ...]:
@@ -32,7 +33,7 @@ _MARGIN = ("first", "second", "margin", *_columns_of("first", "second"))
 @command(
     "chain",
     "a shortest chain between two windows, from the later to the earlier",
-    [PLAN, word("first", _WINDOW), word("second", _WINDOW), NAMES, ORIGIN, exit_code("no chain"), forms()],
+    [PLAN, word("first", _WINDOW), word("second", _WINDOW), NAMES, ORIGIN, UNIT, exit_code("no chain"), forms()],
     [
         "poddreshi chain examples/plan-12.plan 1 5",
         "poddreshi chain examples/bolting.plan 0 2",
@@ -60,7 +61,7 @@ def _chain(args) -> Reply:
 @command(
     "neighbours",
     "the windows that overlap one window",
-    [PLAN, word("position", _WINDOW), option("--margins", action="store_true", help=_MARGINS), NAMES, ORIGIN, forms()],
+    [PLAN, word("position", _WINDOW), option("--margins", action="store_true", help=_MARGINS), NAMES, ORIGIN, UNIT, forms()],
     [
         "poddreshi neighbours examples/plan-12.plan 2",
         "poddreshi neighbours examples/bolting.plan 0",
@@ -68,7 +69,7 @@ def _chain(args) -> Reply:
         "poddreshi neighbours year.plan 9 --margins --names examples/year.txt --origin 2026-01-01",
     ],
     "Two windows overlap when they share at least the plan's minimum handover. With --margins there is a line for each, which ends "
-    "with what `margin` says of the two: `0  shares 6 minutes`. CSV has the minutes in a last column, and JSON with each window.",
+    "with what `margin` says of the two: `0  shares 6`. CSV has the margin in a last column, and JSON with each window.",
 )
 def _neighbours(args) -> Reply:
     plan = given(args)
@@ -86,21 +87,23 @@ def _neighbours(args) -> Reply:
 
 @command(
     "margin",
-    "how many minutes two windows share, or lie apart",
+    "how much two windows share, or how far apart they lie",
     [
-        *(PLAN, word("first", _WINDOW), word("second", _WINDOW), NAMES, ORIGIN),
-        forms(number="answer as the bare number of minutes, below 0 where they lie apart"),
+        *(PLAN, word("first", _WINDOW), word("second", _WINDOW), NAMES, ORIGIN, UNIT),
+        forms(number="answer as the bare number, below 0 where they lie apart"),
     ],
     [
         "poddreshi margin examples/plan-12.plan 0 2",
+        "poddreshi margin examples/plan-12.plan 0 2 --unit minutes",
         "poddreshi margin examples/plan-12.plan 0 4 --number",
         "poddreshi margin examples/bolting.plan 0 2",
+        "poddreshi margin examples/shift.plan 0 2 --names examples/shift.txt --origin 2026-01-01",
         "poddreshi margin year.plan 2 7 --names examples/year.txt --origin 2026-01-01",
     ],
-    "It is the smaller end of the two less the greater offset: `shares 6 minutes`, `touches` where one ends as the other begins, "
-    "or `2 minutes apart`. A window with itself shares its length. Two windows overlap when they share at least the plan's minimum "
-    "handover; those that share fewer minutes do not overlap. With --names or --origin a line for each of the two windows follows: "
-    "position, name, begin and end. CSV and JSON have the number of --number.",
+    "It is the smaller end of the two less the greater offset: `shares 6`, `touches` where one ends as the other begins, or `2 "
+    "apart`; with --unit `shares 6 seconds`. A window with itself shares its length. Two windows overlap when they share at "
+    "least the plan's minimum handover; those that share less do not overlap. With --names or --origin a line for each of the "
+    "two windows follows: position, name, begin and end. CSV and JSON have the number of --number.",
 )
 def _margin(args) -> Reply:
     plan = given(args)
@@ -135,14 +138,14 @@ def _reach_of_each(plan: Given) -> Reply:
         pair = f"from {plan.names.place(found.smaller)} to {plan.names.place(found.larger)}"
         lines.append(("component", str(component), "", "windows", str(first), "to", str(last), when, f"{found.handovers}:", pair))
         rows.append((component, first, last, begin, end, *_reach_row(plan, found)))
-        data.append({"component": component, "first": first, "last": last, **plan.minutes(span), **_reach_data(plan, found)})
+        data.append({"component": component, "first": first, "last": last, **plan.times(span), **_reach_data(plan, found)})
     return Reply(aligned(lines, right=(1, 4, 6, 8), between=" "), header, rows, data)
 
 
 @command(
     "reach",
     "how far apart two windows of a component are at most, and which two",
-    [PLAN, word("position", f"{_WINDOW}; without it, all components", nargs="?"), NAMES, ORIGIN, forms()],
+    [PLAN, word("position", f"{_WINDOW}; without it, all components", nargs="?"), NAMES, ORIGIN, UNIT, forms()],
     [
         "poddreshi reach examples/plan-12.plan 3",
         "poddreshi reach examples/plan-12.plan",
@@ -179,7 +182,7 @@ def _difference(plans: Sequence[bytes], windows: int) -> Optional[Tuple[int, int
 @command(
     "same",
     "whether the same pairs of windows overlap in two plans",
-    [word("first", "a plan file", "PLAN"), word("second", "another", "PLAN"), exit_code("different"), forms()],
+    [word("first", "a plan file", "PLAN"), word("second", "another", "PLAN"), UNIT, exit_code("different"), forms()],
     ["poddreshi same examples/plan-12.plan examples/plan-31.plan --exit-code"],
     "Where they differ, the first position and the first window that overlaps it in one of the plans alone are named, and the "
     "two minimum handovers where these are unequal.",
@@ -201,7 +204,7 @@ def _same(args) -> Reply:
         words.append(f"windows {pair[0]} and {pair[1]} overlap in the {there} plan and not in the {elsewhere}")
         data.update(position=pair[0], other=pair[1], overlap_in=there)
     if minimums[0] != minimums[1]:
-        first, second = (counted(minimum, "minute") for minimum in minimums)
+        first, second = map(Clock(unit=args.unit).tell_length, minimums)
         words.append(f"the minimum handover of the first plan is {first} and that of the second {second}")
     row = ("different", "; ".join(words), *pair)
     return Reply(": ".join(row[:2]), header, [row], data, otherwise=True)

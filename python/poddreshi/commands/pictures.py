@@ -2,7 +2,7 @@
 from typing import Optional, Tuple
 
 from .. import calls
-from ..commandline import NAMES, ORIGIN, OUTPUT, PLAN, command, given, option, word
+from ..commandline import NAMES, ORIGIN, OUTPUT, PLAN, UNIT, command, given, option, word
 from ..failures import Mistake
 from ..figures import END_LIMIT
 from ..given import Given
@@ -11,7 +11,7 @@ from ..replies import Reply
 
 
 def _span(args, plan: Given) -> Tuple[int, int]:
-    """The minutes that are asked for."""
+    """The stretch that is asked for."""
     try:
         start = 0 if args.since is None else plan.clock.offset(args.since)
         end = max(END_LIMIT, start + 1) if args.until is None else plan.clock.offset(args.until)
@@ -37,19 +37,21 @@ def _ends(args, plan: Given) -> Optional[Tuple[int, int]]:
         PLAN,
         word("first", "a position, or a name; its chain to SECOND is marked", nargs="?"),
         word("second", "a position, or a name", nargs="?"),
-        option("--from", dest="since", metavar="TIME", help="leave out what lies before: a minute, or a date"),
+        option("--from", dest="since", metavar="TIME", help="leave out what lies before: a number, or a date"),
         option("--to", dest="until", metavar="TIME", help="leave out what lies after"),
         option("--reach", metavar="POSITION", help="mark the farthest two windows of this one's component, and their chain"),
         option("--whole", action="store_true", help="show all windows, also beside a chain"),
-        *(NAMES, ORIGIN, OUTPUT),
+        *(NAMES, ORIGIN, UNIT, OUTPUT),
     ],
     [
         "poddreshi draw examples/plan-12.plan -o plan-12.svg",
         "poddreshi draw examples/plan-12.plan 1 5 -o chain.svg",
         "poddreshi draw examples/plan-12.plan --reach 3 -o reach.svg",
+        "poddreshi draw examples/shift.plan 0 4 --names examples/shift.txt --origin 2026-01-01 -o shift.svg",
         "poddreshi draw year.plan --origin 2026-01-01 --from 2026-02-01 --to 2026-04-01 -o spring.svg",
     ],
-    "With two windows or --reach the picture shows their components alone. Stretches with no window are cut out, with a mark.",
+    "With two windows or --reach the picture shows their components alone. Stretches with no window are cut out, with a mark. "
+    "The axis has bare numbers, with --unit their unit, and with --origin dates.",
 )
 def _draw(args) -> Reply:
     if (args.first is None) != (args.second is None):

@@ -1,6 +1,6 @@
 """chains: Friday's sheet."""
 from .. import files, pages, sheets
-from ..commandline import NAMES, ORIGIN, PLAN, command, exit_code, forms, given, once, reading, word
+from ..commandline import NAMES, ORIGIN, PLAN, UNIT, command, exit_code, forms, given, once, reading, word
 from ..figures import TEXT_LIMIT
 from ..replies import Reply
 
@@ -11,7 +11,7 @@ from ..replies import Reply
     [
         PLAN,
         word("rigs", "lines of a rig's name, its present window and the window where it is wanted"),
-        *(NAMES, ORIGIN, exit_code("no chain"), forms("html")),
+        *(NAMES, ORIGIN, UNIT, exit_code("no chain"), forms("html")),
     ],
     [
         "poddreshi chains year.plan examples/rigs.txt --names examples/year.txt --origin 2026-01-01",
