@@ -24,7 +24,7 @@ ASKED = {
     11: "Have both tags one plan number?",
     12: "Do two tags of equal component and equal rank agree in all fields?",
     13: "Is the end at least that of the window before?",
-    14: "Is the minimum handover {MINIMUM_LEAST} to {MINIMUM_LIMIT:,} minutes?",
+    14: "Is the minimum handover {MINIMUM_LEAST} to {MINIMUM_LIMIT:,}?",
     15: "Has the plan fewer than {WINDOWS_LIMIT:,} windows?",
     16: "Is the new plan number another than the old?",
 }
