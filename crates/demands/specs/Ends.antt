@@ -1,5 +1,5 @@
--- Paper 02, Q-8: plans in seconds. "The unit is agreed outside the file": no definition has one, and what paper 01 calls a minute is one of
--- the plan's units of time.
+-- Paper 02, Q-8: plans in seconds. "The unit is agreed outside the file": no definition has one, and what paper 01 calls a minute is
+-- one of the plan's units of time.
 -- Vocabulary: span, EndAsked, EndsAsked, EndsFit, LastsByEnds, MarginsWithin, AddedAsked, AddedEnds, alone, late, LateCases.
 use Prim.Native.Nat.{ℕ, _+_, _≤_, _<_}
 use mathlib.Core.{Bool.true, Bool.false, Path._≡_, Logic._↔_, Logic._≢_, List.List, List.[], List._∷_}
@@ -50,15 +50,15 @@ pub record MarginsWithin : Type 0 where
       marginAnswerOf (fileOf 0 1 (span 0 1 ∷ span 4294967294 1 ∷ [])) 0 1 ≡ MarginAnswer.Margin (negℤ (pos 4294967293))
   pub most-reached : marginAnswerOf (fileOf 0 1 (span 0 4294967295 ∷ [])) 0 0 ≡ MarginAnswer.Margin (pos 4294967295)
 
--- "search": the last that is found goes by true sums, wherever the windows lie: a later window stands no further than the last of u exactly
--- if its offset and the minimum together are at most the end of u.
+-- "search": the last that is found goes by true sums, wherever the windows lie: a later window stands no further than the last of u
+-- exactly if its offset and the minimum together are at most the end of u.
 abbrev pub LastsByEnds : Type 0
 LastsByEnds =
     (file : List ℕ) → AcceptedPlan file → (u v : ℕ) → u < v → v < windowCount file →
     (v ≤ lastOf file u) ↔ (windowAt file v .offset + minimumHandover file ≤ endOf (windowAt file u))
 
--- "and change": a window that is long enough can be added, to a plan with a place for it and under another number, exactly if its sum is no
--- greater, and else 5 turns it away, whatever the buffers.
+-- "and change": a window that is long enough can be added, to a plan with a place for it and under another number, exactly if its sum
+-- is no greater, and else 5 turns it away, whatever the buffers.
 pub record AddedAsked (file : List ℕ) (plan offset length : ℕ) : Type 0 where
   pub passes : AcceptedChange file (adding plan (span offset length)) ↔ (offset + length ≤ 4294967295)
   pub refused :
