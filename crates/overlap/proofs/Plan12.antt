@@ -40,11 +40,12 @@ unfolding meaning marginOf marginBetween
 plan-12-margins = refl
 
 -- Where ends reach 4,294,967,295 (paper 02, Q-8): the bound is formed of true numbers, by a minimum of 1 and of a day; a window at that end
--- of the line overlaps one that ends with it and touches one that ends where it begins; and margins have their extremes.
+-- of the line overlaps one that ends with it and touches one that ends where it begins; offset and minimum are added as they are, also
+-- where 32 bits do not hold the sum; and margins have their extremes.
 pub late-computed :
     (boundOf 1 (window 4294967294 1) ∷ boundOf 86400 (window 4294880895 86400) ∷ [] ≡ 4294967295 ∷ 4294880896 ∷ [])
     × (marginReaches 1 4294967295 4294967294 ∷ marginReaches 1 4294967294 4294967294 ∷ marginReaches 86400 4294967295 4294880895
-    ∷ marginReaches 86400 4294967294 4294880895 ∷ [] ≡ true ∷ false ∷ true ∷ false ∷ [])
+    ∷ marginReaches 86400 4294967294 4294880895 ∷ marginReaches 6 10 4294967295 ∷ [] ≡ true ∷ false ∷ true ∷ false ∷ false ∷ [])
     × (marginOf (window 0 1) (window 4294967294 1) ∷ marginOf (window 0 4294967295) (window 0 4294967295) ∷ []
     ≡ negsuc 4294967292 ∷ pos 4294967295 ∷ [])
 unfolding meaning marginReaches boundOf marginOf
