@@ -1,5 +1,4 @@
 // A component in a table of parents: its levels stand one behind the other, since a later window is at least as deep.
-ghost use mathlib.Core.Path.{_≡_};
 ghost use Prim.Native.Nat.{_≤_, _<_};
 ghost use lib.ListN.{length};
 ghost use Rattle.reaching.specs.Passes.{Upward, TopFound, LevelsFound};

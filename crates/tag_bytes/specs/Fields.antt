@@ -1,8 +1,8 @@
 -- Paper 01, "Tag": "Five numbers of two bytes, lowest byte first: plan number, component, depth, rank, rank of the last.
 -- `Tag` has fixed figures: 10 bytes, fields after the first at most 2,047."
 -- Paper 02, Q-1: "an eight-byte tag (plan number, component, depth, rank)".
--- Vocabulary: fieldCount, tagLength, fieldLimit, field, tagOf, numbers, tagWith, tagBytes, withinLimit; shortLength, shortTagOf, shortTagWith,
--- withLast, shortNumbers, shortBytes.
+-- Vocabulary: fieldCount, tagLength, fieldLimit, field, tagOf, numbers, tagWith, tagBytes, withinLimit; shortLength, shortTagOf,
+-- shortTagWith, withLast, shortNumbers, shortBytes.
 use Prim.Native.Nat.{ℕ, _-_, _*_}
 use mathlib.Core.Bool.{Bool, _&&_}
 use mathlib.Core.List.{List, _++_}
