@@ -7,7 +7,8 @@ use native.Mathlib.Omega.{arith}
 use Rattle.sequences.proofs.Tests.{truth}
 use Rattle.interval_graph.specs.Numbers.{Outcome, apart, no-chain, outcome, shortOutcome}
 use Rattle.refusals.specs.declared.Refusal.{Refusal}
-use Rattle.refusals.specs.Question.{Question, firstNo}
+use Rattle.refusals.specs.declared.Asked.the-variants as Asked
+use Rattle.refusals.specs.Question.{Question, firstNo, askedOf}
 use Rattle.refusals.proofs.Question.{first-yes, first-no}
 use Rattle.plan.specs.declared.questions.Validation.the-variants as Validation
 use Rattle.plan.specs.Validation.{validateAnswerOf}
@@ -88,7 +89,7 @@ pub demand-1 : Demand1
 unfolding validateAnswerOf numbersAnswerOf buildAnswerOf tagsAnswerOf tableAnswerOf reachIn reachOf reachAnswerOf chainAnswerOf neighboursAnswerOf sameAnswerOf
     readAnswerOf writeAnswerOf lookupAnswerOf pairAnswerOf pairAtAnswerOf afterBuild afterTags afterTable afterChain afterNeighbours
     afterWrite shortTagsAnswerOf evenTableAnswerOf shortReadAnswerOf shortWriteAnswerOf shortPairAnswerOf shortPairAtAnswerOf afterShortTags
-    afterShortWrite pageAnswerOf ifFilled afterPage queryQuestions changeAnswerOf afterChange marginAnswerOf
+    afterShortWrite pageAnswerOf ifFilled afterPage queryQuestions changeAnswerOf afterChange marginAnswerOf askedOf
 demand-1 =
     record {
       validating = λ file. refuses Validation.Refused _ (λ r s e. cc) (λ r e. let z : _≡_ {A = ℕ} 0 1 = cc in omega arith) _;
@@ -119,6 +120,7 @@ demand-1 =
       paging = λ tags. refuses PageAnswer.Refused _ (λ r s e. cc) (λ r e. let z : _≡_ {A = ℕ} 0 1 = cc in omega arith) _;
       querying = λ tags first second. refuses-as (sym (query-asked tags first second)) (refuses PairAnswer.Refused _ (λ r s e. cc)
           (outcome-answered (outcome (numbers (tagOf (tagPart tags first))) (numbers (tagOf (tagPart tags second))))) _);
+      asking = λ questions. refuses Asked.Refused _ (λ r s e. cc) (λ r e. let z : _≡_ {A = ℕ} 0 1 = cc in omega arith) questions;
       build-untouched = λ r f before. refl;
       tags-untouched = λ r f before. refl;
       short-tags-untouched = λ r f before. refl;

@@ -5,7 +5,8 @@
 use Prim.Native.Nat.{ℕ}
 use mathlib.Core.{Bool.true, Bool.false, Path._≡_, Logic._↔_, List.List, List.[], List._∷_}
 use Rattle.interval_graph.specs.Numbers.{Numbers}
-use Rattle.refusals.specs.{declared.Refusal.Refusal, Question.Question}
+use Rattle.refusals.specs.{declared.Refusal.Refusal, Question.Question, Question.askedOf}
+use Rattle.refusals.specs.declared.Asked.the-variants as Asked
 use Rattle.plan.specs.Validation.{planQuestions, validateAnswerOf}
 use Rattle.plan.specs.declared.questions.Validation.the-variants as Validation
 use Rattle.tag_bytes.specs.{Reading.readQuestions, Reading.readAnswerOf, Writing.writeQuestions, Writing.writeAnswerOf, Writing.afterWrite}
@@ -90,6 +91,8 @@ pub record Demand1 : Type 0 where
   -- On a page (paper 02, Q-4): the whole of it, and each record by itself.
   pub paging : (tags : List ℕ) → Refuses (tagFileQuestion tags ∷ []) PageAnswer.Refused (pageAnswerOf tags)
   pub querying : (tags : List ℕ) (u v : ℕ) → Refuses (queryQuestions tags u v) PairAnswer.Refused (queryAnswerOf tags u v)
+  -- On what is asked by itself: 7 of two positions, also behind 9 of a tag file, and 4 and 5 of one window.
+  pub asking : (questions : List Question) → Refuses questions Asked.Refused (askedOf questions)
   -- A refusal leaves every lent table as it was.
   pub build-untouched : (r : Refusal) (f : ℕ → ℕ) (before : List ℕ) → afterBuild (BuildAnswer.Refused r) f before ≡ before
   pub tags-untouched : (r : Refusal) (f : ℕ → Numbers) (before : List ℕ) → afterTags (BuildAnswer.Refused r) f before ≡ before
