@@ -62,8 +62,13 @@ class Library:
         self.write_numbers("short_write", *arguments)
 
     def lookup(self, tags, at):
-        offset = WORD()
-        self.ask("lookup", tags, WORD(at), ctypes.byref(offset))
+        before = 2**64 - 1
+        offset = WORD(before)
+        try:
+            self.ask("lookup", tags, WORD(at), ctypes.byref(offset))
+        except Refused:
+            assert offset.value == before
+            raise
         return tags[offset.value : offset.value + 10]
 
     def count(self, call, *arguments):
