@@ -4,7 +4,7 @@
  *
  * Compiled as reader.c is:
  *
- *   cc -O2 -Iinclude examples/page.c target/staticlib/libpoddreshi.a -o page
+ *   cc -O2 -Iinclude examples/page.c "$(./poddreshi build)/libpoddreshi.a" -o page
  *
  * Prints a line for each pair: its positions and the count, or that no chain joins the windows, or the refusal with its number.
  * Exit status 0, also where single pairs are refused; 1 where the tag file is, 2 where the command is mistaken or a file cannot

@@ -3,9 +3,9 @@
  *   reader FIRST SECOND            two files of ten bytes each
  *   reader --short FIRST SECOND    two files of eight, the short tags of an even plan
  *
- * Compiled in a checkout, after ./poddreshi build, or against an installed tree:
+ * Compiled in a checkout, or against an installed tree:
  *
- *   cc -O2 -Iinclude examples/reader.c target/staticlib/libpoddreshi.a -o reader
+ *   cc -O2 -Iinclude examples/reader.c "$(./poddreshi build)/libpoddreshi.a" -o reader
  *   cc -O2 reader.c $(pkg-config --cflags --libs poddreshi) -o reader
  *
  * Prints the count, or that no chain joins the windows, or the refusal with its number. Exit status 0 for an answer, 1 for

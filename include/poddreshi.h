@@ -1,9 +1,9 @@
 /* Poddreshi: service windows, their distance tree and tags of ten bytes, or of eight for even plans. The C interface (C99).
  *
- * Link target/staticlib/libpoddreshi.a, which `rt staticlib poddreshi` writes. Beside it is needed only the C library's
- * memset. It keeps no state, allocates nothing and may be called from any thread. poddreshi_tags, poddreshi_short_tags,
- * poddreshi_add and poddreshi_withdraw use at most 38 kB of stack, the calls that take no plan file some bytes, and all others at
- * most 17 kB.
+ * Link libpoddreshi.a, which `./poddreshi build` makes in the folder that it names. It holds two objects, and a program that calls
+ * on tags alone has nothing on plans in it. Beside it is needed only the C library's memset. It keeps no state, allocates nothing
+ * and may be called from any thread. poddreshi_tags, poddreshi_short_tags, poddreshi_add and poddreshi_withdraw use at most 38 kB of
+ * stack, the calls that take no plan file some bytes, and all others at most 17 kB.
  *
  * THE ANSWER of every call is one number of 64 bits: four fields of 16 bits, the lowest first. The first field is the kind.
  * A refusal has kind PODDRESHI_REFUSED in every call, and then the question's number (1 to 16), the input at fault (0 the
@@ -48,7 +48,7 @@
 #define PODDRESHI_H
 
 /* The version of the library that this header belongs to. */
-#define PODDRESHI_VERSION "4.0.0"
+#define PODDRESHI_VERSION "4.0.1"
 
 #include <stddef.h>
 #include <stdint.h>

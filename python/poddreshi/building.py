@@ -1,4 +1,5 @@
-"""Building in a checkout: the prover makes the static library and the listing program, a C compiler the shared library.
+"""Building in a checkout: the prover makes two static libraries and the listing program, `ar` joins the two, and a C compiler makes
+the shared library of them.
 
 What is built stands in a folder named for the content of its sources, so it is there or it is not: nothing is judged by file
 times, and a copied or moved checkout stays built.
@@ -9,11 +10,13 @@ import os
 import shutil
 import subprocess
 import sys
+import tempfile
 from pathlib import Path
 from typing import Iterator, List
 
 from . import files, places
 from .failures import Failure
+from .sources import LIBRARIES
 
 HOW_LONG = "some three minutes on two processors the first time, and less after a change"
 STATIC = "libpoddreshi.a"
@@ -25,6 +28,7 @@ def ensure(root: Path) -> Path:
     if done.is_dir():
         return done
     _needed("rt", "which proves and builds it")
+    _needed("ar", "which joins the static library")
     _needed(_compiler()[0], "a C compiler, which makes the shared library")
     try:
         (root / "target").mkdir(exist_ok=True)
@@ -59,13 +63,14 @@ def _alone(lock: Path) -> Iterator[None]:
 
 def _make(root: Path, done: Path) -> None:
     files.say(f"poddreshi: proving and building the library: {HOW_LONG}")
-    _run(root, ["rt", "staticlib", "poddreshi"], "the library is not proved, so it was not built")
+    for name in LIBRARIES:
+        _run(root, ["rt", "staticlib", name], "the library is not proved, so it was not built")
     _run(root, ["rt", "check", "listing"], "the listing program is not proved, so it was not built")
     older = list(done.parent.iterdir()) if done.parent.is_dir() else []
     with files.new_folder(done) as folder:
         lib = folder / "lib"
         (lib / "poddreshi").mkdir(parents=True)
-        shutil.copy(root / "target" / "staticlib" / STATIC, lib)
+        _join([root / "target" / "staticlib" / f"lib{name}.a" for name in LIBRARIES], lib / STATIC)
         shutil.copy(root / "target" / "bin" / "listing", lib / "poddreshi")
         archive = ["-Wl,--whole-archive", str(lib / STATIC), "-Wl,--no-whole-archive"]
         linked = ["-shared", f"-Wl,-soname,{places.LIBRARY}", "-o", str(lib / places.LIBRARY), *archive]
@@ -75,7 +80,16 @@ def _make(root: Path, done: Path) -> None:
     files.say("poddreshi: built")
 
 
-def _run(root: Path, words: List[str], otherwise: str) -> None:
+def _join(archives: List[Path], whole: Path) -> None:
+    """One archive with the object of each, so that a program that calls on tags alone has no code on plans in it."""
+    otherwise = "the static library could not be joined"
+    with tempfile.TemporaryDirectory(dir=whole.parent) as scratch:
+        for archive in archives:
+            _run(Path(scratch), ["ar", "x", str(archive)], otherwise)
+        _run(Path(scratch), ["ar", "rcs", str(whole), *sorted(os.listdir(scratch))], otherwise)
+
+
+def _run(folder: Path, words: List[str], otherwise: str) -> None:
     """A step of the build, with what it prints on standard error."""
-    if subprocess.run(words, cwd=root, stdin=subprocess.DEVNULL, stdout=sys.stderr).returncode:
+    if subprocess.run(words, cwd=folder, stdin=subprocess.DEVNULL, stdout=sys.stderr).returncode:
         raise Failure(otherwise)

@@ -4,9 +4,10 @@ import re
 from pathlib import Path
 from typing import Dict, List
 
-MADE = ("poddreshi", "listing")  # what is built: a library and a program
+LIBRARIES = ("poddreshi", "poddreshi_reader")  # which are joined to one: of each crate the prover makes a library by itself
+MADE = (*LIBRARIES, "listing")  # what is built: the library and a program
 PARTS = ("src", "specs", "proofs")
-RECIPE = 1  # raised where the way of building changes
+RECIPE = 2  # raised where the way of building changes
 
 
 def _needs(root: Path) -> Dict[str, List[str]]:

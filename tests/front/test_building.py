@@ -16,10 +16,11 @@ echo "rt: proving"
 sleep "${RT_SLEEP:-0}"
 [ -z "$RT_FAILS" ] || { echo "rt: a fact does not hold"; exit 1; }
 case $1 in
-staticlib) mkdir -p target/staticlib && cp "$BUILT/lib/libpoddreshi.a" target/staticlib/ ;;
+staticlib) mkdir -p target/staticlib && cp "$BUILT/lib/libpoddreshi.a" "target/staticlib/lib$2.a" ;;
 check) mkdir -p target/bin && cp "$BUILT/lib/poddreshi/listing" target/bin/ ;;
 esac
 """
+PROVED = ["rt staticlib poddreshi", "rt staticlib poddreshi_reader", "rt check listing"]
 
 
 class Checkout(Case):
@@ -30,8 +31,8 @@ class Checkout(Case):
         self.root = self.folder / "a checkout"
         shutil.copytree(ROOT / "python", self.root / "python", ignore=shutil.ignore_patterns("__pycache__"))
         shutil.copy(FRONT, self.root)
-        (self.root / "crates.txt").write_text("# crates\ntag:\npoddreshi: tag\nlisting: tag io\nother:\n")
-        for name in ("tag", "poddreshi", "listing", "other"):
+        (self.root / "crates.txt").write_text("# crates\ntag:\npoddreshi: tag\npoddreshi_reader: tag\nlisting: tag io\nother:\n")
+        for name in ("tag", "poddreshi", "poddreshi_reader", "listing", "other"):
             (self.root / "crates" / name / "src").mkdir(parents=True)
             (self.root / "crates" / name / "src" / "lib.rt").write_text(name)
         tools = self.folder / "tools"
@@ -68,12 +69,12 @@ class Checkout(Case):
 
     def test_first_use(self):
         told = self.build()
-        self.assertEqual(self.runs(), ["rt staticlib poddreshi", "rt check listing"])
+        self.assertEqual(self.runs(), PROVED)
         lines = told.splitlines()
         self.assertIn("proving and building the library: some three minutes", lines[0])
-        self.assertEqual(lines[1:], ["rt: proving", "rt: proving", "poddreshi: built"])
+        self.assertEqual(lines[1:], ["rt: proving"] * len(PROVED) + ["poddreshi: built"])
         self.assertEqual(self.build(), "")
-        self.assertEqual(len(self.runs()), 2)
+        self.assertEqual(self.runs(), PROVED)
 
     def test_two_first_uses_at_once(self):
         command = [str(self.root / "poddreshi"), "list", self.plan]
@@ -82,7 +83,7 @@ class Checkout(Case):
         fronts = [subprocess.Popen(command, env=environment, **pipes) for _ in range(3)]
         told = [front.communicate(timeout=60) for front in fronts]
         self.assertEqual([(out.decode(), front.returncode) for (out, _), front in zip(told, fronts)], [(LISTING_12, 0)] * 3)
-        self.assertEqual(self.runs(), ["rt staticlib poddreshi", "rt check listing"])
+        self.assertEqual(self.runs(), PROVED)
         self.assertEqual(sum(b"waiting" in error for _, error in told), 2)
 
     def test_file_times_play_no_part(self):
@@ -108,7 +109,7 @@ class Checkout(Case):
         options = {"front": self.root / "poddreshi", "environment": self.without}
         self.fails(3, "list", self.plan, about="the library is not built", **options)
         self.build()
-        self.assertEqual(len(self.runs()), 4)
+        self.assertEqual(self.runs(), 2 * PROVED)
         self.assertEqual(len(list((self.root / "target" / "front").iterdir())), 1)
 
     @needs_modes
@@ -128,6 +129,8 @@ class Checkout(Case):
         options = {"front": self.root / "poddreshi", "environment": self.without}
         for command in (("list", self.plan), ("build",), ("install", "there")):
             self.fails(3, *command, about="rt, which proves and builds it, is not on the path", **options)
+        options["environment"] = {**self.without, "PATH": f"{self.folder / 'tools'}:{self.bare()}"}
+        self.fails(3, "list", self.plan, about="ar, which joins the static library, is not on the path", **options)
         options["environment"] = {**self.with_rt, "CC": "no-such-compiler -O2"}
         self.fails(3, "list", self.plan, about="no-such-compiler, a C compiler, which makes the shared library, is not", **options)
         self.assertIn(b"examples:", self.run_front("list", "--help", **options).stdout)

@@ -12,11 +12,11 @@ use poddreshi::poddreshi_add;
 use poddreshi::poddreshi_chain;
 use poddreshi::poddreshi_margin;
 use poddreshi::poddreshi_neighbours;
-use poddreshi::poddreshi_pair_at;
 use poddreshi::poddreshi_reach;
 use poddreshi::poddreshi_short_tags;
 use poddreshi::poddreshi_tags;
 use poddreshi::poddreshi_withdraw;
+use poddreshi_reader::poddreshi_pair_at;
 use tag_bytes::Tag;
 
 // One byte more than any plan, so that a file that is too long is among the cases.

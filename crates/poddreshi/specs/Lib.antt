@@ -1,6 +1,4 @@
--- The C interface: what is left in what is lent to it. What is answered is defined in the crates below, and how it is packed
--- into a number in `packing`.
---   Lent   the tables and the offset
---   Pages  the records of a page
+-- The C interface on plan files: what is left in what is lent to it. What is answered is defined in the crates below, and how it is
+-- packed into a number in `packing`.
+--   Lent   the tables, the buffers and the margin's place
 pub mod Lent
-pub mod Pages

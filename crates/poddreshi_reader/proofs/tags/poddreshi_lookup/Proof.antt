@@ -1,14 +1,14 @@
--- `poddreshi::tags::poddreshi_lookup` meets its contract: the answer of the call below it, packed, and where that found the tag
+-- `poddreshi_reader::tags::poddreshi_lookup` meets its contract: the answer of the call below it, packed, and where that found the tag
 -- its offset, which lies within the tag file and so fits.
 -- Assumes nothing.
 use mathlib.Core.{Path.sym, Path.ap, Path._∙_, Logic.⊎-elim}
 use native.Mathlib.Omega.{arith}
 use Rattle.tag_bytes.proofs.TagFile.{found-within}
 use Rattle.packing.specs.Packing.{packedLookup}
-use Rattle.poddreshi.specs.Lent.{offsetAfter}
+use Rattle.poddreshi_reader.specs.Lent.{offsetAfter}
 use borrow.Author.Needs.{needs}
-use Rattle.poddreshi.proofs.tags.poddreshi_lookup.Statement.{statement}
-use Rattle.poddreshi.proofs.tags.poddreshi_lookup.Tie as tie
+use Rattle.poddreshi_reader.proofs.tags.poddreshi_lookup.Statement.{statement}
+use Rattle.poddreshi_reader.proofs.tags.poddreshi_lookup.Tie as tie
 
 lookup-refusal-requires : tie.Need-lookup-refusal-requires
 lookup-refusal-requires c κs = search needs

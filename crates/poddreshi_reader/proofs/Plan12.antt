@@ -7,8 +7,8 @@ use Rattle.tag_bytes.proofs.Plan12.{tags}
 use Rattle.page.specs.Page.{pageAnswerOf}
 use Rattle.page.proofs.Plan12 as page
 use Rattle.packing.specs.Packing.{packedPair}
-use Rattle.poddreshi.specs.declared.pages.PackedQuery.{PackedQuery}
-use Rattle.poddreshi.specs.Pages.{packedWith, packedFilled, afterPackedPage}
+use Rattle.poddreshi_reader.specs.declared.pages.PackedQuery.{PackedQuery}
+use Rattle.poddreshi_reader.specs.Pages.{packedWith, packedFilled, afterPackedPage}
 
 -- A record with a number in the place for its answer.
 unfoldable pub query : ℕ → ℕ → ℕ → PackedQuery

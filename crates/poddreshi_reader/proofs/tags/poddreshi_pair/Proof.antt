@@ -1,10 +1,10 @@
--- `poddreshi::tags::poddreshi_pair` meets its contract: the answer of the call below it, packed.
+-- `poddreshi_reader::tags::poddreshi_pair` meets its contract: the answer of the call below it, packed.
 -- Assumes nothing.
 use mathlib.Core.Path.{ap, _∙_}
 use Rattle.packing.specs.Packing.{packedPair}
 use borrow.Author.Needs.{needs}
-use Rattle.poddreshi.proofs.tags.poddreshi_pair.Statement.{statement}
-use Rattle.poddreshi.proofs.tags.poddreshi_pair.Tie as tie
+use Rattle.poddreshi_reader.proofs.tags.poddreshi_pair.Statement.{statement}
+use Rattle.poddreshi_reader.proofs.tags.poddreshi_pair.Tie as tie
 
 pair-requires : tie.Need-pair-requires
 pair-requires c κs = search needs

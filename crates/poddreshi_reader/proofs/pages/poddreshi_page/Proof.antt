@@ -1,4 +1,4 @@
--- `poddreshi::pages::poddreshi_page` meets its contract: it is the function that `page` walks (Filling), over records as C has them.
+-- `poddreshi_reader::pages::poddreshi_page` meets its contract: it is the function that `page` walks (Filling), over records as C has them.
 -- Assumes nothing.
 use mathlib.Core.Path.{_≡_, refl, ap}
 use Prim.Native.Nat.{ℕ, _%_}
@@ -16,20 +16,20 @@ use Rattle.page.proofs.Filled.{upTo, to-fill-few, pair-filled, page-filled}
 use Rattle.page.proofs.Filling.{word-typed}
 use Rattle.page.proofs.Promising.{ToFill, Answered, Ask, meets}
 use Rattle.packing.specs.Packing.{packedPage, packedPair}
-use Rattle.poddreshi.specs.declared.pages.PackedQuery.{PackedQuery}
-use Rattle.poddreshi.specs.Pages.{packedWith, packedFilled, afterPackedPage, asOnePackedPair}
-use Rattle.poddreshi.proofs.pages.PackedQuery as Q
-use Rattle.poddreshi.proofs.pages.PackedQuery.Laws as Q′
+use Rattle.poddreshi_reader.specs.declared.pages.PackedQuery.{PackedQuery}
+use Rattle.poddreshi_reader.specs.Pages.{packedWith, packedFilled, afterPackedPage, asOnePackedPair}
+use Rattle.poddreshi_reader.proofs.pages.PackedQuery as Q
+use Rattle.poddreshi_reader.proofs.pages.PackedQuery.Laws as Q′
 use Rattle.page.proofs.to_fill.Symbol as to-fill
 use Rattle.page.proofs.to_fill.Met as to-fill-thm
-use Rattle.poddreshi.proofs.pages.answered.Symbol as answered
-use Rattle.poddreshi.proofs.pages.answered.Met as answered-thm
-use Rattle.poddreshi.proofs.pages.ask.Symbol as ask
-use Rattle.poddreshi.proofs.pages.ask.Met as ask-thm
-use Rattle.poddreshi.proofs.pages.poddreshi_page.Key.{name as #page}
-use Rattle.poddreshi.proofs.pages.poddreshi_page as page
-use Rattle.poddreshi.proofs.pages.poddreshi_page.Statement as stated
-use Rattle.poddreshi.proofs.pages.poddreshi_page.Code as code
+use Rattle.poddreshi_reader.proofs.pages.answered.Symbol as answered
+use Rattle.poddreshi_reader.proofs.pages.answered.Met as answered-thm
+use Rattle.poddreshi_reader.proofs.pages.ask.Symbol as ask
+use Rattle.poddreshi_reader.proofs.pages.ask.Met as ask-thm
+use Rattle.poddreshi_reader.proofs.pages.poddreshi_page.Key.{name as #page}
+use Rattle.poddreshi_reader.proofs.pages.poddreshi_page as page
+use Rattle.poddreshi_reader.proofs.pages.poddreshi_page.Statement as stated
+use Rattle.poddreshi_reader.proofs.pages.poddreshi_page.Code as code
 
 abbrev count : List ℕ → ℕ → ℕ
 count tags n = toFill (pageAnswerOf tags) n
@@ -61,5 +61,5 @@ poddreshi-page-spec 𝓤 H 𝓜 𝓖 𝓡 =
     (tyInt w64) word-typed (λ tags. to-fill-few (pageAnswerOf tags)) page-after
     𝓤 H (𝓖 .A) W (tablesOf 𝓤 H 𝓜 (tables 𝓤 H 𝓜 𝓡 code.env)) to-fill.name answered.name ask.name
     (cited 𝓤 H (ToFill count 𝓤 H (𝓖 .A)) 𝓜 𝓡 code.env to-fill.name to-fill.routine code.calls-page·to-fill (to-fill-thm.met 𝓤 H 𝓜 𝓖 𝓡))
-    (cited 𝓤 H (Answered Q.the-row asOnePackedPair 𝓤 H (𝓖 .A)) 𝓜 𝓡 code.env answered.name answered.routine code.calls-poddreshi·pages·answered (answered-thm.met 𝓤 H 𝓜 𝓖 𝓡))
-    (cited 𝓤 H (Ask u64 answer 𝓤 H (𝓖 .A)) 𝓜 𝓡 code.env ask.name ask.routine code.calls-poddreshi·pages·ask (ask-thm.met 𝓤 H 𝓜 𝓖 𝓡)))
+    (cited 𝓤 H (Answered Q.the-row asOnePackedPair 𝓤 H (𝓖 .A)) 𝓜 𝓡 code.env answered.name answered.routine code.calls-poddreshi-reader·pages·answered (answered-thm.met 𝓤 H 𝓜 𝓖 𝓡))
+    (cited 𝓤 H (Ask u64 answer 𝓤 H (𝓖 .A)) 𝓜 𝓡 code.env ask.name ask.routine code.calls-poddreshi-reader·pages·ask (ask-thm.met 𝓤 H 𝓜 𝓖 𝓡)))

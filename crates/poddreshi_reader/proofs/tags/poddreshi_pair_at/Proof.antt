@@ -1,11 +1,11 @@
--- `poddreshi::tags::poddreshi_pair_at` meets its contract: the refusal of the places, or the answer of the two parts, packed.
+-- `poddreshi_reader::tags::poddreshi_pair_at` meets its contract: the refusal of the places, or the answer of the two parts, packed.
 -- Assumes nothing.
 use mathlib.Core.Path.{ap, _∙_}
 use Rattle.tag.proofs.Pairing.{pair-at-refused, pair-at-passed}
 use Rattle.packing.specs.Packing.{packedPair}
 use borrow.Author.Needs.{needs}
-use Rattle.poddreshi.proofs.tags.poddreshi_pair_at.Statement.{statement}
-use Rattle.poddreshi.proofs.tags.poddreshi_pair_at.Tie as tie
+use Rattle.poddreshi_reader.proofs.tags.poddreshi_pair_at.Statement.{statement}
+use Rattle.poddreshi_reader.proofs.tags.poddreshi_pair_at.Tie as tie
 
 ask-places-requires : tie.Need-ask-places-requires
 ask-places-requires c κs = search needs

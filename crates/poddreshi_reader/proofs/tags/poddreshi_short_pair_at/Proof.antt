@@ -1,10 +1,10 @@
--- `poddreshi::tags::poddreshi_short_pair_at` meets its contract: the answer of the call below it, packed.
+-- `poddreshi_reader::tags::poddreshi_short_pair_at` meets its contract: the answer of the call below it, packed.
 -- Assumes nothing.
 use mathlib.Core.Path.{ap, _∙_}
 use Rattle.packing.specs.Packing.{packedPair}
 use borrow.Author.Needs.{needs}
-use Rattle.poddreshi.proofs.tags.poddreshi_short_pair_at.Statement.{statement}
-use Rattle.poddreshi.proofs.tags.poddreshi_short_pair_at.Tie as tie
+use Rattle.poddreshi_reader.proofs.tags.poddreshi_short_pair_at.Statement.{statement}
+use Rattle.poddreshi_reader.proofs.tags.poddreshi_short_pair_at.Tie as tie
 
 short-pair-at-requires : tie.Need-short-pair-at-requires
 short-pair-at-requires c κs = search needs

@@ -1,10 +1,10 @@
--- `poddreshi::pages::answered` meets its contract: the record's positions, and the answer for them.
+-- `poddreshi_reader::pages::answered` meets its contract: the record's positions, and the answer for them.
 -- Assumes nothing.
 use mathlib.Core.Path.{ap}
 use borrow.Author.Needs.{needs}
-use Rattle.poddreshi.specs.Pages.{packedWith, asOnePackedPair}
-use Rattle.poddreshi.proofs.pages.answered.Statement.{statement}
-use Rattle.poddreshi.proofs.pages.answered.Tie as tie
+use Rattle.poddreshi_reader.specs.Pages.{packedWith, asOnePackedPair}
+use Rattle.poddreshi_reader.proofs.pages.answered.Statement.{statement}
+use Rattle.poddreshi_reader.proofs.pages.answered.Tie as tie
 
 poddreshi-pair-at-requires : tie.Need-poddreshi-pair-at-requires
 poddreshi-pair-at-requires c κs = search needs

@@ -6,7 +6,7 @@ use Rattle.tag.specs.Pairing.{pairAtAnswerOf}
 use Rattle.page.specs.declared.PageAnswer.{PageAnswer}
 use Rattle.page.specs.Page.{queryAnswerOf, ifFilled}
 use Rattle.packing.specs.Packing.{packedPair}
-use Rattle.poddreshi.specs.declared.pages.PackedQuery.{PackedQuery}
+use Rattle.poddreshi_reader.specs.declared.pages.PackedQuery.{PackedQuery}
 
 -- "Its positions stay."
 unfoldable pub packedWith : PackedQuery → ℕ → PackedQuery

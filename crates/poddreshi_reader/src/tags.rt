@@ -12,7 +12,7 @@ ghost use Rattle.short_tag.specs.ShortPairing.{shortPairAnswerOf, shortPairAtAn
 ghost use Rattle.tag_bytes.specs.TagFile.{lookupAnswerOf};
 ghost use Rattle.tag_bytes.specs.Writing.{writeAnswerOf, afterWrite, shortWriteAnswerOf, afterShortWrite};
 ghost use Rattle.packing.specs.Packing.{packedPair, packedLookup, packedWrite};
-ghost use Rattle.poddreshi.specs.Lent.{offsetAfter};
+ghost use Rattle.poddreshi_reader.specs.Lent.{offsetAfter};
 
 // The answer from the bytes of two tags.
 #[no_mangle]

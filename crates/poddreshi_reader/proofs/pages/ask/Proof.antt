@@ -1,10 +1,10 @@
--- `poddreshi::pages::ask` meets its contract: the answer of the page, packed.
+-- `poddreshi_reader::pages::ask` meets its contract: the answer of the page, packed.
 -- Assumes nothing.
 use mathlib.Core.Path.{ap, _∙_}
 use Rattle.packing.specs.Packing.{packedPage}
 use borrow.Author.Needs.{needs}
-use Rattle.poddreshi.proofs.pages.ask.Statement.{statement}
-use Rattle.poddreshi.proofs.pages.ask.Tie as tie
+use Rattle.poddreshi_reader.proofs.pages.ask.Statement.{statement}
+use Rattle.poddreshi_reader.proofs.pages.ask.Tie as tie
 
 ask-requires : tie.Need-ask-requires
 ask-requires c κs = search needs

@@ -4,7 +4,7 @@ use packing::pack_page;
 ghost use mathlib.Core.Path.{_≡_};
 ghost use Rattle.page.specs.Page.{pageAnswerOf};
 ghost use Rattle.packing.specs.Packing.{packedPage};
-ghost use Rattle.poddreshi.specs.Pages.{afterPackedPage, asOnePackedPair};
+ghost use Rattle.poddreshi_reader.specs.Pages.{afterPackedPage, asOnePackedPair};
 
 // A record of a page as C has it: two positions, and the place for their answer as one number. What stands there before is not read.
 #[repr(C)]
