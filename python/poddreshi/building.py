@@ -64,20 +64,25 @@ def _alone(lock: Path) -> Iterator[None]:
 def _make(root: Path, done: Path) -> None:
     files.say(f"poddreshi: proving and building the library: {HOW_LONG}")
     for name in LIBRARIES:
-        _run(root, ["rt", "staticlib", name], "the library is not proved, so it was not built")
-    _run(root, ["rt", "check", "listing"], "the listing program is not proved, so it was not built")
+        _run(_crate(root, name), ["rt", "lib"], "the library is not proved, so it was not built")
+    # It is made by being run; with nothing to read it prints a line, which nobody wants.
+    _run(_crate(root, "listing"), ["rt", "run"], "the listing program is not proved, so it was not built", subprocess.DEVNULL)
     older = list(done.parent.iterdir()) if done.parent.is_dir() else []
     with files.new_folder(done) as folder:
         lib = folder / "lib"
         (lib / "poddreshi").mkdir(parents=True)
-        _join([root / "target" / "staticlib" / f"lib{name}.a" for name in LIBRARIES], lib / STATIC)
-        shutil.copy(root / "target" / "bin" / "listing", lib / "poddreshi")
+        _join([_crate(root, name) / "out" / f"lib{name}.a" for name in LIBRARIES], lib / STATIC)
+        shutil.copy(_crate(root, "listing") / "out" / "listing", lib / "poddreshi")
         archive = ["-Wl,--whole-archive", str(lib / STATIC), "-Wl,--no-whole-archive"]
         linked = ["-shared", f"-Wl,-soname,{places.LIBRARY}", "-o", str(lib / places.LIBRARY), *archive]
         _run(root, [*_compiler(), *linked], "the shared library could not be linked")
     for folder in older:
         shutil.rmtree(folder, ignore_errors=True)
     files.say("poddreshi: built")
+
+
+def _crate(root: Path, name: str) -> Path:
+    return root / "crates" / name
 
 
 def _join(archives: List[Path], whole: Path) -> None:
@@ -89,7 +94,7 @@ def _join(archives: List[Path], whole: Path) -> None:
         _run(Path(scratch), ["ar", "rcs", str(whole), *sorted(os.listdir(scratch))], otherwise)
 
 
-def _run(folder: Path, words: List[str], otherwise: str) -> None:
+def _run(folder: Path, words: List[str], otherwise: str, printed=sys.stderr) -> None:
     """A step of the build, with what it prints on standard error."""
-    if subprocess.run(words, cwd=folder, stdin=subprocess.DEVNULL, stdout=sys.stderr).returncode:
+    if subprocess.run(words, cwd=folder, stdin=subprocess.DEVNULL, stdout=printed).returncode:
         raise Failure(otherwise)

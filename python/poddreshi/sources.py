@@ -4,16 +4,16 @@ import re
 from pathlib import Path
 from typing import Dict, List
 
-LIBRARIES = ("poddreshi", "poddreshi_reader")  # which are joined to one: of each crate the prover makes a library by itself
+LIBRARIES = ("poddreshi_c", "poddreshi_reader_c")  # which are joined to one: of each crate the prover makes a library by itself
 MADE = (*LIBRARIES, "listing")  # what is built: the library and a program
 PARTS = ("src", "specs", "proofs")
-RECIPE = 2  # raised where the way of building changes
+RECIPE = 3  # raised where the way of building changes
 
 
 def _needs(root: Path) -> Dict[str, List[str]]:
     """Each crate and what it depends on, from crates.txt."""
     text = (root / "crates.txt").read_text(encoding="utf-8")
-    return {name: others.split() for name, others in re.findall(r"^(\w+):([^#\n]*)", text, re.M)}
+    return {name: others.split() for name, others in re.findall(r"^(\w+)(?: staticlib)?:([^#\n]*)", text, re.M)}
 
 
 def crates(root: Path) -> Dict[str, List[str]]:

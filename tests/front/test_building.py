@@ -11,16 +11,17 @@ from support import FRONT, LISTING_12, PLAN_12, ROOT, Case, built, needs_modes, 
 
 RT = """\
 #!/bin/sh
-echo "rt $*" >> "$RT_LOG"
-echo "rt: proving"
+name=${PWD##*/}
+echo "rt $* in $name" >> "$RT_LOG"
+echo "rt: proving" >&2
 sleep "${RT_SLEEP:-0}"
-[ -z "$RT_FAILS" ] || { echo "rt: a fact does not hold"; exit 1; }
+[ -z "$RT_FAILS" ] || { echo "rt: a fact does not hold" >&2; exit 1; }
 case $1 in
-staticlib) mkdir -p target/staticlib && cp "$BUILT/lib/libpoddreshi.a" "target/staticlib/lib$2.a" ;;
-check) mkdir -p target/bin && cp "$BUILT/lib/poddreshi/listing" target/bin/ ;;
+lib) mkdir -p out && cp "$BUILT/lib/libpoddreshi.a" "out/lib$name.a" ;;
+run) mkdir -p out && cp "$BUILT/lib/poddreshi/listing" out/ && echo "refused 1 0" ;;
 esac
 """
-PROVED = ["rt staticlib poddreshi", "rt staticlib poddreshi_reader", "rt check listing"]
+PROVED = ["rt lib in poddreshi_c", "rt lib in poddreshi_reader_c", "rt run in listing"]
 
 
 class Checkout(Case):
@@ -31,8 +32,8 @@ class Checkout(Case):
         self.root = self.folder / "a checkout"
         shutil.copytree(ROOT / "python", self.root / "python", ignore=shutil.ignore_patterns("__pycache__"))
         shutil.copy(FRONT, self.root)
-        (self.root / "crates.txt").write_text("# crates\ntag:\npoddreshi: tag\npoddreshi_reader: tag\nlisting: tag io\nother:\n")
-        for name in ("tag", "poddreshi", "poddreshi_reader", "listing", "other"):
+        (self.root / "crates.txt").write_text("# crates\ntag:\npoddreshi_c staticlib: tag\npoddreshi_reader_c staticlib: tag\nlisting: tag\nother:\n")
+        for name in ("tag", "poddreshi_c", "poddreshi_reader_c", "listing", "other"):
             (self.root / "crates" / name / "src").mkdir(parents=True)
             (self.root / "crates" / name / "src" / "lib.rt").write_text(name)
         tools = self.folder / "tools"
