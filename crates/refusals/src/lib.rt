@@ -1,10 +1,12 @@
 // The refusal that every call gives, and questions in turn, of which the first "no" is the answer.
+#![tactic(auto)]
+
 ghost use Rattle.std.specs.Prelude.{◌≡◌};
 ghost use Rattle.refusals.specs.Question.{refusal_by, refusal_from, refusal_about, position_questions, asked_of};
 
 // A "no" to one of paper 01's questions: the question's number, which input is at fault (0 the first, 1 the second),
 // and the position of the window being read, or 0.
-#[derive(Drop)]
+#[derive(Clone, Copy)]
 pub struct Refusal {
     pub number: u8,
     pub input: u8,
@@ -12,7 +14,7 @@ pub struct Refusal {
 }
 
 // Questions asked in their order: the first "no", or that there is none.
-#[derive(Drop)]
+#[derive(Clone, Copy)]
 pub enum Asked {
     Passed,
     Refused(Refusal),
