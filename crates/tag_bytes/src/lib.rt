@@ -1,4 +1,6 @@
 // Tags as bytes: read, written, and looked up in a tag file. It knows no plan and no second tag.
+#![tactic(auto)]
+
 mod reader;
 mod tag_file;
 mod writer;

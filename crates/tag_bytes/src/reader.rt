@@ -6,7 +6,7 @@ ghost use Rattle.tag_bytes.specs.Reading.{read_answer_of, refusal_of, short_read
 use refusals::Refusal;
 
 // The five numbers of a window, which a reader answers from.
-#[derive(Drop)]
+#[derive(Clone, Copy)]
 pub struct Tag {
     pub plan: u16,
     pub component: u16,
@@ -16,14 +16,14 @@ pub struct Tag {
     pub last: u16,
 }
 
-#[derive(Drop)]
+#[derive(Clone, Copy)]
 pub enum TagRead {
     Valid(Tag),
     Refused(Refusal),
 }
 
 // The four numbers of a window of an even plan, which a reader of short tags answers from.
-#[derive(Drop)]
+#[derive(Clone, Copy)]
 pub struct ShortTag {
     pub plan: u16,
     pub component: u16,
@@ -31,7 +31,7 @@ pub struct ShortTag {
     pub rank: u16,
 }
 
-#[derive(Drop)]
+#[derive(Clone, Copy)]
 pub enum ShortRead {
     Valid(ShortTag),
     Refused(Refusal),

@@ -6,7 +6,7 @@ ghost use Rattle.tag_bytes.specs.TagFile.{tag_part, lookup_answer_of, lookup_par
 use crate::reader::Tag;
 use refusals::Refusal;
 
-#[derive(Drop)]
+#[derive(Clone, Copy)]
 pub enum LookupAnswer {
     Found,
     Refused(Refusal),

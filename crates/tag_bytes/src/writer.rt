@@ -7,7 +7,7 @@ ghost use Rattle.tag_bytes.specs.Writing.{write_answer_of, after_write, short_wr
 use crate::reader::{ShortTag, Tag, within_limit};
 use refusals::Refusal;
 
-#[derive(Drop)]
+#[derive(Clone, Copy)]
 pub enum WriteAnswer {
     Written,
     Refused(Refusal),
