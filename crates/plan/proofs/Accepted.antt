@@ -14,7 +14,7 @@ use Rattle.plan.specs.declared.questions.Validation.TheVariants.{Accepted, Refus
 use Rattle.plan.specs.File.{header_length, file_length, plan_number, window_count, minimum_handover, window_at, end_of}
 use Rattle.plan.specs.Validation.{greatest_count, greatest_minimum, greatest_end, offset_before, window_questions, file_questions}
 use Rattle.plan.specs.Validation.{plan_questions, AcceptedPlan, validate_answer_of}
-use Rattle.plan.proofs.Validation.{windows_asked}
+use Rattle.plan.proofs.Validated.{windows_asked}
 
 -- Acceptance is what `validate` answers.
 refused_not_accepted : (plan n : ℕ) (r : Refusal) → Refused r ≡ Accepted plan n → ⊥

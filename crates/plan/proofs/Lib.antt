@@ -1,6 +1,6 @@
 -- Laws, in the order in which they rest on one another.
 --   Reading     a window read from the whole file
---   Validation  what each answer of `validate` shows
+--   Validated   what each answer of `validate` shows
 --   Accepted    what is known of an accepted plan's windows, and that no more is needed
 --   Written     the file of a list of windows
 --   Even        even plans: no end falls, and the pass that asks
@@ -8,7 +8,7 @@
 --   Counted     an accepted plan with so many windows
 --   Plan12      the paper's plan, by computation
 pub mod Reading
-pub mod Validation
+pub mod Validated
 pub mod Accepted
 pub mod Written
 pub mod Even

@@ -20,7 +20,7 @@ use Rattle.plan.specs.declared.windows.Window.{Window}
 use Rattle.plan.specs.File.{header_length, window_length, file_length, window_place, plan_number, window_count, minimum_place, minimum_handover}
 use Rattle.plan.specs.File.{window_of, window_at, header_bytes, window_bytes, file_of}
 use Rattle.plan.specs.Validation.{greatest_count, minimum_passes, offset_before, window_questions, file_questions, plan_questions}
-use Rattle.plan.proofs.{Reading.window_read, Validation.asked_with, Validation.windows_asked}
+use Rattle.plan.proofs.{Reading.window_read, Validated.asked_with, Validated.windows_asked}
 
 pub length-window_bytes : (w : Window) → length (window_bytes w) ≡ window_length
 unfolding window_bytes bytes32

@@ -1,4 +1,6 @@
 // The plan file: its header and its windows, read and written, and whether it is accepted.
+#![tactic(auto)]
+
 mod figures;
 mod header;
 mod questions;

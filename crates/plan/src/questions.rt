@@ -11,7 +11,7 @@ use crate::header::minimum_handover;
 use crate::windows::{Window, read_window, window_end, window_place};
 use refusals::{Asked, Refusal};
 
-#[derive(Drop)]
+#[derive(Clone, Copy)]
 pub enum Validation {
     // Every question is answered "yes": the plan number, and how many windows there are.
     Accepted { plan: u16, windows: u16 },

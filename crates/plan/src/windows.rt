@@ -5,7 +5,7 @@ ghost use Rattle.plan.specs.File.{window_place, window_of, window_at, window_byt
 
 use crate::figures::{HEADER_LENGTH, WINDOW_LENGTH};
 
-#[derive(Drop)]
+#[derive(Clone, Copy)]
 pub struct Window {
     pub offset: u32,
     pub length: u32,
