@@ -10,7 +10,7 @@ use Rattle.plan.specs.Validation.{AcceptedPlan}
 use Rattle.plan.specs.AcceptedWindows.{AcceptedWindows}
 use Rattle.plan.proofs.Accepted.{accepted_sound}
 use Rattle.overlap.specs.Overlap.{overlaps, bound_of}
-use Rattle.overlap.proofs.Overlap.{interval_order}
+use Rattle.overlap.proofs.InOrder.{interval_order}
 
 pub windows_order : {file : List ℕ} {windows : ℕ} → AcceptedWindows file windows → IntervalOrder windows (overlaps file)
 windows_order {file} p = rw p.counted (interval_order file p.accepted)

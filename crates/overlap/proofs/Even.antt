@@ -11,7 +11,8 @@ use Rattle.interval_graph.proofs.Last.{last_cases, last_ge, overlap_last}
 use Rattle.plan.specs.{File.window_count, File.minimum_handover, File.window_at, File.end_of, Validation.AcceptedPlan, Even.EvenPlan}
 use Rattle.plan.proofs.Even.{even_ends}
 use Rattle.overlap.specs.Overlap.{overlaps, margin_reaches}
-use Rattle.overlap.proofs.Overlap.{overlaps_in_order, interval_order}
+use Rattle.overlap.proofs.Overlap.{overlaps_in_order}
+use Rattle.overlap.proofs.InOrder.{interval_order}
 
 pub even_lasts : (file : List ℕ) → AcceptedPlan file → EvenPlan file → LastsRise (window_count file) (overlaps file)
 unfolding margin_reaches

@@ -5,6 +5,7 @@
 --   Counted  an accepted plan with so many windows: its order, and the bound of each
 --   Plan12   the paper's plan, by computation
 pub mod Overlap
+pub mod InOrder
 pub mod Margining
 pub mod Even
 pub mod Counted

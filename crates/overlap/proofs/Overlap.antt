@@ -91,18 +91,6 @@ overlaps_in_order file ok u v before within =
     sorted : a.offset ≤ b.offset
     sorted = offsets_sorted file s u v (omega arith) within
 
--- The same by the bound of u, which the searches form once for a window.
-pub overlaps_bound : (file : List ℕ) → AcceptedPlan file → (u v : ℕ) → u < v → v < window_count file →
-    overlaps file u v ≡ ltb (window_at file v).offset (bound_of (minimum_handover file) (window_at file u))
-unfolding margin_reaches bound_of
-overlaps_bound file ok u v before within =
-    let least = (accepted_sound file ok).least in let m = minimum_handover file in
-    let a = window_at file u in let o = (window_at file v).offset in
-    overlaps_in_order file ok u v before within
-    ∙ iff_equal (leb (o + m) (end_of a)) (ltb o (bound_of m a))
-    (λ t. lt-ltb o (bound_of m a) (omega (arith, least, leb-true (o + m) (end_of a) t)))
-    (λ t. le-leb (o + m) (end_of a) (omega (arith, least, ltb-true o (bound_of m a) t)))
-
 -- Windows of an accepted plan that touch do not overlap: end of u equal to offset of v is no minute shared.
 pub touching_apart : (file : List ℕ) → AcceptedPlan file → (u v : ℕ) → end_of (window_at file u) ≡ (window_at file v).offset →
     overlaps file u v ≡ false
@@ -110,27 +98,6 @@ touching_apart file ok u v e =
     let least = (accepted_sound file ok).least in
     ⊎_elim (λ t. absurd (omega (arith, least, (overlaps_minimum file u v t).1, shared_minutes_lem (window_at file u) (window_at file v)))) (λ t. t)
     (truth (overlaps file u v))
-
--- The overlap of an accepted plan is in interval order. (`between` rests on question 4, by `overlaps_in_order`.)
-pub interval_order : (file : List ℕ) → AcceptedPlan file → IntervalOrder (window_count file) (overlaps file)
-unfolding margin_reaches
-interval_order file ok =
-    record {
-      symmetric = λ u v. iff_equal _ _ (turned u v) (turned v u);
-      irreflexive = λ v. ⊎_elim (λ t. absurd ((overlaps_minimum file v v t).0 refl)) (λ t. t) (truth (overlaps file v v));
-      between = λ u v w uv vw wn t.
-          let far : (window_at file w).offset + minimum_handover file ≤ end_of (window_at file u) =
-          leb-true _ _ (sym (overlaps_in_order file ok u w (omega arith) wn) ∙ t) in
-          overlaps_in_order file ok u v uv (omega arith)
-          ∙ le-leb ((window_at file v).offset + minimum_handover file) (end_of (window_at file u))
-          (omega (arith, far, offsets_sorted file (accepted_sound file ok) v w (omega arith) wn));
-    }
-  where
-    turned : (u v : ℕ) → overlaps file u v ≡ true → overlaps file v u ≡ true
-    turned u v t =
-        let h : (u ≢ v) × (minimum_handover file ≤ shared_minutes (window_at file u) (window_at file v)) = overlaps_minimum file u v t in
-        minimum_overlaps file v u (λ e. h.0 (sym e))
-        (omega (arith, h.1, shared_minutes_lem (window_at file u) (window_at file v), shared_minutes_lem (window_at file v) (window_at file u)))
 
 -- With minimum 1 overlap is what it was.
 pub as_before : (file : List ℕ) → minimum_handover file ≡ 1 → overlaps file ≡ shares_minute file

@@ -1,4 +1,6 @@
 // When two windows of a plan overlap, and by how much.
+#![tactic(auto)]
+
 mod margins;
 mod overlaps;
 

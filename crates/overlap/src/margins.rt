@@ -7,7 +7,7 @@ ghost use Rattle.overlap.specs.Margin.{margin_of, margin_answer_of};
 use plan::{Validation, Window};
 use refusals::{Asked, Refusal};
 
-#[derive(Drop)]
+#[derive(Clone, Copy)]
 pub enum MarginAnswer {
     Margin(i64),
     Refused(Refusal),
