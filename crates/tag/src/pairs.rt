@@ -9,7 +9,7 @@ ghost use Rattle.tag.specs.Pairing.{compared_of, pair_answer_of, place_questions
 use refusals::{Asked, Refusal};
 use tag_bytes::{Tag, TagRead, lookup};
 
-#[derive(Drop)]
+#[derive(Clone, Copy)]
 pub enum PairAnswer {
     Handovers(u16),
     NoChain,
