@@ -1,9 +1,5 @@
 -- Laws, in the order in which they rest on one another.
 --   Plan12     the worked example, by computation
 --   Filled     a list whose first elements are replaced, and a page filled so
---   Filling    a loop that replaces the records of a lent slice one by one, walked for any type of record
---   Promising  so a function that is this loop meets its contract
 pub mod Plan12
 pub mod Filled
-pub mod Filling
-pub mod Promising

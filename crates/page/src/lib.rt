@@ -1,4 +1,6 @@
 // A page of pairs: a lent list of records, each filled with the answer for its two positions.
+#![tactic(auto)]
+
 ghost use Rattle.std.specs.Prelude.{◌≡◌};
 ghost use Rattle.page.specs.Page.{page_answer_of, to_fill, after_page};
 ghost use Rattle.page.specs.Passes.{as_one_pair};
@@ -7,7 +9,7 @@ use refusals::Refusal;
 use tag::{PairAnswer, Tag};
 
 // Two positions, and the place for their answer. What stands there before is not read.
-#[derive(Drop)]
+#[derive(Clone, Copy)]
 pub struct Query {
     pub first: usize,
     pub second: usize,
@@ -15,7 +17,7 @@ pub struct Query {
 }
 
 // Whether a page was filled. A refused page is left as it was.
-#[derive(Drop)]
+#[derive(Clone, Copy)]
 pub enum PageAnswer {
     Filled,
     Refused(Refusal),
