@@ -17,7 +17,7 @@ use Rattle.overlap.specs.Overlap.{overlaps}
 use Rattle.plan.specs.Validation.{greatest_count}
 use Rattle.plan.specs.AcceptedWindows.{AcceptedWindows}
 use Rattle.plan.proofs.Accepted.{accepted_sound, offsets_sorted}
-use Rattle.overlap.proofs.Overlap.{overlaps_bound}
+use Rattle.overlap.proofs.InOrder.{overlaps_bound}
 use Rattle.plan.proofs.Counted.{windows_few}
 use Rattle.overlap.proofs.Counted.{windows_order, bound_fits, own_offset}
 use Rattle.minutes.specs.Tables.{offset_at, bound_at, parent_of, last_of}

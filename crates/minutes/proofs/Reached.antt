@@ -15,7 +15,8 @@ use Rattle.plan.specs.Validation.{AcceptedPlan}
 use Rattle.plan.proofs.Accepted.{accepted_sound, offsets_sorted}
 use Rattle.plan.proofs.Counted.{needed_least}
 use Rattle.overlap.specs.Overlap.{overlaps, margin_reaches}
-use Rattle.overlap.proofs.Overlap.{overlaps_in_order, interval_order}
+use Rattle.overlap.proofs.Overlap.{overlaps_in_order}
+use Rattle.overlap.proofs.InOrder.{interval_order}
 use Rattle.minutes.specs.Tables.{last_of}
 
 -- The test on the end of the window at u and the offset of the one at v.

@@ -6,7 +6,7 @@ use plan::Validation;
 use refusals::Refusal;
 
 // One table filled from a plan.
-#[derive(Drop)]
+#[derive(Clone, Copy)]
 pub enum TableAnswer {
     Filled { windows: u16 },
     Refused(Refusal),

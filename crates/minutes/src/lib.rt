@@ -1,4 +1,6 @@
 // Parents and lasts of a plan's windows, from their minutes.
+#![tactic(auto)]
+
 mod answers;
 mod evens;
 mod lasts;

@@ -12,7 +12,7 @@ use crate::answers::{TableAnswer, table_room};
 use crate::windows::{bound_at, offset_at};
 
 // A position and its bound, which is formed when the finger comes to it, and not again for each window that it waits for.
-#[derive(Drop)]
+#[derive(Clone, Copy)]
 struct Finger {
     at: usize,
     bound: u32,
