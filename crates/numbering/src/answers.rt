@@ -2,7 +2,7 @@
 use refusals::Refusal;
 
 // All tables and the tag file: the plan number, how many windows there are, and how many components.
-#[derive(Drop)]
+#[derive(Clone, Copy)]
 pub enum BuildAnswer {
     Built {
         plan: u16,

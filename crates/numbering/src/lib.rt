@@ -1,4 +1,6 @@
 // The numbers of a plan's windows: the five tables of its distance tree.
+#![tactic(auto)]
+
 mod answers;
 mod filling;
 
