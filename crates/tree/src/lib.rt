@@ -1,4 +1,6 @@
 // The distance tree of a plan: its five tables and its tag file.
+#![tactic(auto)]
+
 mod building;
 mod tagging;
 
