@@ -1,4 +1,6 @@
 // The short tags of an even plan.
+#![tactic(auto)]
+
 mod filling;
 mod tagging;
 
