@@ -8,7 +8,7 @@ use Rattle.interval_graph.proofs.ShortestChain.{chain_earliest_shortest, chain_e
 use Rattle.plan.specs.File.{window_count}
 use Rattle.overlap.specs.Overlap.{overlaps}
 use Rattle.plan.specs.Validation.{AcceptedPlan}
-use Rattle.overlap.proofs.Overlap.{interval_order}
+use Rattle.overlap.proofs.InOrder.{interval_order}
 use Rattle.path.specs.Chain.{chain_between}
 
 module _ (file : List ℕ) (ok : AcceptedPlan file) where

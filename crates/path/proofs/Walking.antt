@@ -3,7 +3,7 @@
 -- Vocabulary: Stepping.
 -- Assumes nothing.
 use Prim.Native.Nat.{ℕ, suc, ◌+◌, ◌≤◌, ◌<◌, min, max}
-use mathlib.Core.{Path.◌≡◌, Path.refl, Path.sym, Logic.⊎_elim, List.List, List.[], List.◌∷◌}
+use mathlib.Core.{Path.◌≡◌, Path.refl, Path.sym, Path.ap, Path.◌∙◌, Logic.⊎_elim, List.List, List.[], List.◌∷◌}
 use native.Mathlib.Omega.{arith}
 use native.Mathlib.Numerals.{add-one}
 use lib.ListN.{length, set, length-append}
@@ -51,7 +51,8 @@ module _ (file : List ℕ) (u v : ℕ) where
         let q : max u v ≡ v = omega arith in
         let some : steps ≡ suc (climb (window_count file) (overlaps file) u v) = rw (ne_eqb u v d) at e in
         let near : climb (window_count file) (overlaps file) u v ≤ v = omega arith in
-        rw some (rw (p, q) at (chain_walk (window_count file) (overlaps file) u v d (rw (p, q) near)))) (equal_or_not u v)
+        rw some (chain_walk (window_count file) (overlaps file) u v d (rw (p, q) near)
+        ∙ (ap (λ x. walk (window_count file) (overlaps file) x (max u v)) p ∙ ap (λ y. walk (window_count file) (overlaps file) u y) q))) (equal_or_not u v)
 
     -- They are one less than its entries.
     pub between_length : steps ≤ v + 1 → steps + 1 ≡ length (chain_between file u v)

@@ -1,7 +1,7 @@
 // What the call of this crate answers.
 use refusals::Refusal;
 
-#[derive(Drop)]
+#[derive(Clone, Copy)]
 pub enum ChainAnswer {
     // How many entries were written, the two windows among them.
     Chain { entries: u16 },

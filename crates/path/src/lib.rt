@@ -1,4 +1,6 @@
 // Answers from a plan: the chain between two windows.
+#![tactic(auto)]
+
 mod answers;
 mod chains;
 mod walk;
