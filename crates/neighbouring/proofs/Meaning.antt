@@ -8,7 +8,7 @@ use Rattle.sequences.proofs.Passing.{passing_sound, passing_complete}
 use Rattle.plan.specs.File.{window_count}
 use Rattle.plan.specs.Validation.{AcceptedPlan}
 use Rattle.overlap.specs.Overlap.{overlaps}
-use Rattle.overlap.proofs.Overlap.{interval_order}
+use Rattle.overlap.proofs.InOrder.{interval_order}
 use Rattle.neighbouring.specs.Neighbours.{neighbours_of}
 
 -- A window is never its own neighbour.

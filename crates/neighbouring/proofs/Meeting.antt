@@ -14,7 +14,8 @@ use Rattle.plan.specs.Validation.{greatest_count, AcceptedPlan}
 use Rattle.plan.proofs.Accepted.{Sound, accepted_sound}
 use Rattle.plan.proofs.Counted.{needed_least}
 use Rattle.overlap.specs.Overlap.{overlaps, margin_reaches}
-use Rattle.overlap.proofs.Overlap.{overlaps_in_order, interval_order}
+use Rattle.overlap.proofs.Overlap.{overlaps_in_order}
+use Rattle.overlap.proofs.InOrder.{interval_order}
 use Rattle.minutes.specs.Tables.{last_of}
 use Rattle.minutes.proofs.Reached.{reached, asked_reached, behind_last, not_behind}
 

@@ -25,7 +25,7 @@ use Rattle.overlap.specs.Overlap.{overlaps}
 use Rattle.plan.specs.Validation.{AcceptedPlan, validate_answer_of}
 use Rattle.plan.specs.AcceptedWindows.{AcceptedWindows}
 use Rattle.plan.proofs.Calls.{plan_refused, plan_passed}
-use Rattle.overlap.proofs.Overlap.{interval_order}
+use Rattle.overlap.proofs.InOrder.{interval_order}
 use Rattle.minutes.specs.Tables.{last_of}
 use Rattle.neighbouring.specs.declared.neighbourhood.NeighboursAnswer.TheVariants.{Neighbours, Refused}
 use Rattle.neighbouring.specs.Neighbours.{neighbours_of, neighbours_questions, neighbours_answer_of}

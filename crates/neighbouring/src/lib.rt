@@ -1,4 +1,6 @@
 // Answers from a plan: the windows that overlap one window.
+#![tactic(auto)]
+
 mod neighbourhood;
 mod windows;
 

@@ -15,7 +15,7 @@ use crate::windows::{end_at, window_at};
 use plan::Validation;
 use refusals::Refusal;
 
-#[derive(Drop)]
+#[derive(Clone, Copy)]
 pub enum NeighboursAnswer {
     // How many positions were written.
     Neighbours(u16),
