@@ -1,5 +1,7 @@
 // Whether two plans are the same. The pairs that overlap are the same exactly if every window's last is, so the plans'
 // tables of lasts are compared, and no pairs.
+#![tactic(auto)]
+
 ghost use Rattle.std.specs.Prelude.{◌≡◌, ◌≤◌, length, get_or, eqb};
 ghost use Rattle.sequences.specs.Search.{every};
 ghost use Rattle.sameness.specs.Sameness.{same_answer_of};
@@ -8,7 +10,7 @@ use minutes::TableAnswer;
 use plan::GREATEST_COUNT;
 use refusals::Refusal;
 
-#[derive(Drop)]
+#[derive(Clone, Copy)]
 pub enum SameAnswer {
     Same,
     Different,
