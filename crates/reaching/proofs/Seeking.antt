@@ -10,7 +10,7 @@ use Rattle.plan.specs.declared.windows.Window.{Window}
 use Rattle.plan.specs.File.{window_count, minimum_handover, window_at, end_of}
 use Rattle.plan.specs.Validation.{AcceptedPlan}
 use Rattle.overlap.specs.Overlap.{margin_reaches}
-use Rattle.overlap.proofs.Overlap.{interval_order}
+use Rattle.overlap.proofs.InOrder.{interval_order}
 use Rattle.minutes.specs.Tables.{last_of}
 use Rattle.minutes.proofs.Reached.{asked_behind, asked_near}
 use Rattle.reaching.specs.Passes.{FirstApart}

@@ -2,7 +2,7 @@
 use refusals::Refusal;
 
 // The greatest number of handovers between two windows of a component, and the positions of the first two that have it.
-#[derive(Drop)]
+#[derive(Clone, Copy)]
 pub enum ReachAnswer {
     Reach {
         handovers: u16,

@@ -3,7 +3,7 @@ ghost use Rattle.std.specs.Prelude.{◌≤◌, ◌<◌, length};
 ghost use Rattle.reaching.specs.Passes.{Upward, TopFound, LevelsFound};
 
 // How many levels below a window the component's last one stands, the first window of that level under it, and the last window.
-#[derive(Drop)]
+#[derive(Clone, Copy)]
 pub(crate) struct Levels {
     pub(crate) steps: usize,
     pub(crate) first: usize,

@@ -1,4 +1,6 @@
 // Reach: how many handovers apart the windows of a component are at most, and the first two that are.
+#![tactic(auto)]
+
 mod answers;
 mod farthest;
 mod levels;
