@@ -16,7 +16,7 @@ use Rattle.interval_graph.proofs.Reach.{last_in_component_window, last_in_compon
 use Rattle.plan.specs.declared.windows.Window.{Window}
 use Rattle.plan.specs.File.{window_count, window_at}
 use Rattle.overlap.specs.Overlap.{sharing, overlaps}
-use Rattle.overlap.proofs.Overlap.{interval_order}
+use Rattle.overlap.proofs.InOrder.{interval_order}
 use Rattle.changing.specs.declared.records.Change.{Change}
 use Rattle.changing.specs.Change.{added_place, changed_file, adding, withdrawing}
 use Rattle.changing.specs.Questions.{AcceptedChange}

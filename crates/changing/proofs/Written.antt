@@ -25,27 +25,16 @@ use Rattle.changing.specs.Steps.{place_of, Addable, Withdrawable}
 use Rattle.changing.proofs.Changed.{changed_whole, changed_count}
 use Rattle.changing.proofs.{Added.place_le, Added.added_count, Withdrawn.withdrawn_count}
 
--- A part of the file, copied to the front of what begins at an index of a list, is placed there.
+-- A part of the file, copied into as many places of a list from an index on, is placed there.
 pub part_copied : (file l : List ℕ) (from end to : ℕ) (part : List ℕ) → end ≤ length file → to + (end - from) ≤ length l →
-    part ≡ take (length (take (end - from) (drop from file))) (take (end - from) (drop from file))
-    ++ drop (length (take (end - from) (drop from file))) (take (length l - to) (drop to l)) →
-    put_mid to (length l - to) l part ≡ placed l to (take (end - from) (drop from file))
+    part ≡ take (end - from) (drop from file) →
+    put_mid to (to + (end - from) - to) l part ≡ placed l to (take (end - from) (drop from file))
 unfolding placed
 part_copied file l from end to part within room e =
     let k : ℕ = end - from in let src = take k (drop from file) in
     let long : length src ≡ k = length-take-le k (drop from file) (omega (arith, length-drop from file)) in
-    let none : post_of to (length l - to) l ≡ [] = Post-is to (length l) l (omega arith) ∙ drop-length l in
-    let rest : take (length l - to) (drop to l) ≡ drop to l = take_all (length l - to) (drop to l) (omega (arith, length-drop to l)) in
-    rw (
-      e,
-      none,
-      append-nil,
-      rest,
-      long,
-      take_all k src (omega arith),
-      le-leb (to + k) (length l) room,
-      drop-drop k to l,
-    ) (sym (append_assoc (take to l) src (drop (to + k) l)))
+    let rest : post_of to (to + k - to) l ≡ drop (to + k) l = Post-is to (to + k) l (omega arith) in
+    rw (e, rest, long, le-leb (to + k) (length l) room) (sym (append_assoc (take to l) src (drop (to + k) l)))
 
 -- Where an added window goes, by what the code reads.
 pub place_read : (file : List ℕ) (w : Window) (windows at place : ℕ) → windows ≡ window_count file → at ≡ place_of file windows w.offset →

@@ -1,4 +1,6 @@
 // Changes of a plan: a window is added or withdrawn, and the changed plan is written with its tag file.
+#![tactic(auto)]
+
 mod applying;
 mod places;
 mod questions;

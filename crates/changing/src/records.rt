@@ -2,7 +2,7 @@
 use plan::Window;
 
 // What is to be done.
-#[derive(Drop)]
+#[derive(Clone, Copy)]
 pub enum Edit {
     // Add this window.
     Add(Window),
@@ -10,7 +10,7 @@ pub enum Edit {
     Withdraw(usize),
 }
 
-#[derive(Drop)]
+#[derive(Clone, Copy)]
 pub struct Change {
     // The new plan number.
     pub plan: u16,

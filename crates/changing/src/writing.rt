@@ -17,7 +17,7 @@ fn copy_part(file: &[u8], from: usize, end: usize, changed: &mut [u8], to: usize
     requires from_in_bounds { to + (end - from) ≤ length changed.old }
     ensures { changed.new ≡ placed changed.old to (take (end - from) (drop from file.now)) }
 {
-    bytes::copy(&file[from..end], &mut changed[to..]);
+    changed[to..to + (end - from)].copy_from_slice(&file[from..end]);
 }
 
 // The plan with a window more. How many bytes it has is returned.
