@@ -1,4 +1,6 @@
 // Each answer as one number of 64 bits, as it crosses into C.
+#![tactic(auto)]
+
 mod answers;
 
 pub use answers::{
