@@ -16,7 +16,7 @@ use Rattle.plan.specs.File.{window_count}
 use Rattle.overlap.specs.Overlap.{overlaps}
 use Rattle.plan.specs.Validation.{plan_questions, AcceptedPlan}
 use Rattle.overlap.proofs.Plan12.{meaning}
-use Rattle.overlap.proofs.Overlap.{interval_order}
+use Rattle.overlap.proofs.InOrder.{interval_order}
 use Rattle.numbering.specs.Tables.{component_count}
 use Rattle.path.specs.Chain.{chain_between}
 use Rattle.demands.specs.Cases.{plan12, touching, overlapping, Case, cases, Says, CaseHolds, CasesHold}

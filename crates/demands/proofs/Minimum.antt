@@ -11,7 +11,8 @@ use Rattle.plan.specs.{declared.windows.Window.Window, File.minimum_handover, Fi
 use Rattle.overlap.specs.Overlap.{overlaps, margin_reaches, shares_minute}
 use Rattle.overlap.proofs.Plan12.{meaning}
 use Rattle.plan.proofs.Accepted.{accepted_sound}
-use Rattle.overlap.proofs.Overlap.{overlaps_minimum, minimum_overlaps, overlaps_in_order, interval_order, as_before}
+use Rattle.overlap.proofs.Overlap.{overlaps_minimum, minimum_overlaps, overlaps_in_order, as_before}
+use Rattle.overlap.proofs.InOrder.{interval_order}
 use Rattle.minutes.specs.Tables.{parent_of, last_of}
 use Rattle.numbering.specs.Tables.{component_of, depth_of, rank_of, last_rank_of, numbers_at}
 use Rattle.path.specs.Chain.{chain_between}

@@ -14,7 +14,7 @@ use Rattle.plan.specs.File.{plan_number, window_count}
 use Rattle.plan.specs.Validation.{AcceptedPlan}
 use Rattle.plan.specs.Even.{even_questions}
 use Rattle.overlap.proofs.Plan12.{meaning}
-use Rattle.overlap.proofs.Overlap.{interval_order}
+use Rattle.overlap.proofs.InOrder.{interval_order}
 use Rattle.plan.proofs.Calls.{plan_passed}
 use Rattle.plan.proofs.Even.{even_ends, ends_even}
 use Rattle.overlap.proofs.Even.{even_lasts}

@@ -9,7 +9,7 @@ use Rattle.interval_graph.proofs.Bounds.{numbers_small}
 use Rattle.plan.specs.File.{plan_number, window_count}
 use Rattle.plan.specs.Validation.{AcceptedPlan}
 use Rattle.plan.proofs.Accepted.{accepted_sound}
-use Rattle.overlap.proofs.Overlap.{interval_order}
+use Rattle.overlap.proofs.InOrder.{interval_order}
 use Rattle.tag_bytes.specs.Fields.{numbers, within_limit}
 use Rattle.tag_bytes.specs.Writing.{after_write}
 use Rattle.tag_bytes.proofs.Fields.{limit_within, length-tag_bytes}

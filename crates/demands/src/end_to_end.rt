@@ -10,7 +10,7 @@ use plan::GREATEST_COUNT;
 use tag::{PairAnswer, Tag};
 use tree::BuildAnswer;
 
-#[derive(Drop)]
+#[derive(Clone, Copy)]
 pub struct Answers {
     // From the two tags alone.
     pub pair: PairAnswer,
