@@ -12,8 +12,7 @@ use packing::pack_build;
 use plan::Window;
 
 // The plan with the window of this offset and so many minutes.
-#[unsafe(no_mangle)]
-pub extern "C" fn poddreshi_add(
+pub fn poddreshi_add(
     file: &[u8],
     plan: u16,
     offset: u32,
@@ -37,8 +36,7 @@ pub extern "C" fn poddreshi_add(
 }
 
 // The plan without the window at a position.
-#[unsafe(no_mangle)]
-pub extern "C" fn poddreshi_withdraw(
+pub fn poddreshi_withdraw(
     file: &[u8],
     plan: u16,
     at: usize,

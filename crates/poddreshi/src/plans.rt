@@ -20,16 +20,14 @@ use packing::{
 };
 
 // Whether a file is that of an accepted plan.
-#[unsafe(no_mangle)]
-pub extern "C" fn poddreshi_validate(file: &[u8]) -> u64
+pub fn poddreshi_validate(file: &[u8]) -> u64
     ensures { result ≡ packed_validation (validate_answer_of file.now) }
 {
     pack_validation(plan::validate(file))
 }
 
 // The five tables and the tag file of a plan.
-#[unsafe(no_mangle)]
-pub extern "C" fn poddreshi_build(
+pub fn poddreshi_build(
     file: &[u8],
     parents: &mut [u16],
     components: &mut [u16],
@@ -50,8 +48,7 @@ pub extern "C" fn poddreshi_build(
 }
 
 // The tag file of a plan.
-#[unsafe(no_mangle)]
-pub extern "C" fn poddreshi_tags(file: &[u8], tags: &mut [u8]) -> u64
+pub fn poddreshi_tags(file: &[u8], tags: &mut [u8]) -> u64
     ensures value { result ≡ packed_build (tags_answer_of file.now (length tags.old)) }
     ensures tags_after { tags.new ≡ after_tags (tags_answer_of file.now (length tags.old)) (numbers_at file.now) tags.old }
 {
@@ -59,8 +56,7 @@ pub extern "C" fn poddreshi_tags(file: &[u8], tags: &mut [u8]) -> u64
 }
 
 // The file of an even plan's short tags.
-#[unsafe(no_mangle)]
-pub extern "C" fn poddreshi_short_tags(file: &[u8], tags: &mut [u8]) -> u64
+pub fn poddreshi_short_tags(file: &[u8], tags: &mut [u8]) -> u64
     ensures value { result ≡ packed_build (short_tags_answer_of file.now (length tags.old)) }
     ensures tags_after { tags.new ≡ after_short_tags (short_tags_answer_of file.now (length tags.old)) (numbers_at file.now) tags.old }
 {
@@ -68,16 +64,14 @@ pub extern "C" fn poddreshi_short_tags(file: &[u8], tags: &mut [u8]) -> u64
 }
 
 // The greatest number of handovers between two windows of a position's component, and the first pair that has it.
-#[unsafe(no_mangle)]
-pub extern "C" fn poddreshi_reach(file: &[u8], at: usize) -> u64
+pub fn poddreshi_reach(file: &[u8], at: usize) -> u64
     ensures { result ≡ packed_reach (reach_answer_of file.now at) }
 {
     pack_reach(reaching::reach(file, at))
 }
 
 // The shortest chain between two windows that has the earliest window at each step, from the later to the earlier.
-#[unsafe(no_mangle)]
-pub extern "C" fn poddreshi_chain(file: &[u8], first: usize, second: usize, out: &mut [u16]) -> u64
+pub fn poddreshi_chain(file: &[u8], first: usize, second: usize, out: &mut [u16]) -> u64
     ensures value { result ≡ packed_chain (chain_answer_of file.now first second (length out.old)) }
     ensures out_after { out.new ≡ after_chain (chain_answer_of file.now first second (length out.old)) (chain_between file.now first second) out.old }
 {
@@ -85,8 +79,7 @@ pub extern "C" fn poddreshi_chain(file: &[u8], first: usize, second: usize, out:
 }
 
 // The positions that overlap one window, rising, without itself.
-#[unsafe(no_mangle)]
-pub extern "C" fn poddreshi_neighbours(file: &[u8], at: usize, out: &mut [u16]) -> u64
+pub fn poddreshi_neighbours(file: &[u8], at: usize, out: &mut [u16]) -> u64
     ensures value { result ≡ packed_neighbours (neighbours_answer_of file.now at (length out.old)) }
     ensures out_after { out.new ≡ after_neighbours (neighbours_answer_of file.now at (length out.old)) (neighbours_of file.now at) out.old }
 {
@@ -94,13 +87,7 @@ pub extern "C" fn poddreshi_neighbours(file: &[u8], at: usize, out: &mut [u16]) 
 }
 
 // The margin of two windows, which may be one: the smaller end less the greater offset.
-#[unsafe(no_mangle)]
-pub extern "C" fn poddreshi_margin(
-    file: &[u8],
-    first: usize,
-    second: usize,
-    margin: &mut i64,
-) -> u64
+pub fn poddreshi_margin(file: &[u8], first: usize, second: usize, margin: &mut i64) -> u64
     ensures value { result ≡ packed_margin (margin_answer_of file.now first second) }
     ensures margin_after { margin.new ≡ margin_after (margin_answer_of file.now first second) margin.old }
 {
@@ -114,8 +101,7 @@ pub extern "C" fn poddreshi_margin(
 }
 
 // Whether two plans are the same.
-#[unsafe(no_mangle)]
-pub extern "C" fn poddreshi_same(first: &[u8], second: &[u8]) -> u64
+pub fn poddreshi_same(first: &[u8], second: &[u8]) -> u64
     ensures { result ≡ packed_same (same_answer_of first.now second.now) }
 {
     pack_same(sameness::same(first, second))
