@@ -9,7 +9,7 @@ use packing::pack_page;
 
 // A record of a page as C has it: two positions, and the place for their answer as one number. What stands there before is not read.
 #[repr(C)]
-#[derive(Drop)]
+#[derive(Clone, Copy)]
 pub struct PackedQuery {
     pub first: usize,
     pub second: usize,
@@ -35,8 +35,7 @@ fn ask(tags: &[u8]) -> u64
 }
 
 // Fills every record of a page. It is the loop of `page::page`, over records that C can hold.
-#[unsafe(no_mangle)]
-pub extern "C" fn poddreshi_page(tags: &[u8], queries: &mut [PackedQuery]) -> u64
+pub fn poddreshi_page(tags: &[u8], queries: &mut [PackedQuery]) -> u64
     ensures value { result ≡ packed_page (page_answer_of tags.now) }
     ensures queries_after { queries.new ≡ after_packed_page (page_answer_of tags.now) tags.now queries.old }
 {

@@ -12,8 +12,7 @@ use refusals::Asked;
 use tag::{LookupAnswer, PairAnswer, Tag};
 
 // The answer from the bytes of two tags.
-#[unsafe(no_mangle)]
-pub extern "C" fn poddreshi_pair(first: &[u8], second: &[u8]) -> u64
+pub fn poddreshi_pair(first: &[u8], second: &[u8]) -> u64
     ensures { result ≡ packed_pair (pair_answer_of first.now second.now) }
 {
     pack_pair(tag::pair(first, second))
@@ -21,8 +20,7 @@ pub extern "C" fn poddreshi_pair(first: &[u8], second: &[u8]) -> u64
 
 // The answer from the tags at two positions of a tag file. It does as `tag::pair_at`, but by the call above: the rule is then
 // compiled once, with its packing, and a pair costs less.
-#[unsafe(no_mangle)]
-pub extern "C" fn poddreshi_pair_at(tags: &[u8], first: usize, second: usize) -> u64
+pub fn poddreshi_pair_at(tags: &[u8], first: usize, second: usize) -> u64
     ensures { result ≡ packed_pair (pair_at_answer_of tags.now first second) }
 {
     let asked = tag::ask_places(tags, first, second);
@@ -34,8 +32,7 @@ pub extern "C" fn poddreshi_pair_at(tags: &[u8], first: usize, second: usize) ->
 
 // Where in a tag file the tag at a position begins. `tag::lookup` hands back the part that begins there; a part does not
 // cross into C.
-#[unsafe(no_mangle)]
-pub extern "C" fn poddreshi_lookup(tags: &[u8], at: usize, offset: &mut usize) -> u64
+pub fn poddreshi_lookup(tags: &[u8], at: usize, offset: &mut usize) -> u64
     ensures value { result ≡ packed_lookup (lookup_answer_of tags.now at) }
     ensures offset_after { offset.new ≡ offset_after (lookup_answer_of tags.now at) at offset.old }
 {
@@ -47,8 +44,7 @@ pub extern "C" fn poddreshi_lookup(tags: &[u8], at: usize, offset: &mut usize) -
 }
 
 // Fills the first ten bytes of `out` with a tag.
-#[unsafe(no_mangle)]
-pub extern "C" fn poddreshi_write(
+pub fn poddreshi_write(
     plan: u16,
     component: u16,
     depth: u16,
@@ -63,24 +59,21 @@ pub extern "C" fn poddreshi_write(
 }
 
 // The answer from the bytes of two short tags.
-#[unsafe(no_mangle)]
-pub extern "C" fn poddreshi_short_pair(first: &[u8], second: &[u8]) -> u64
+pub fn poddreshi_short_pair(first: &[u8], second: &[u8]) -> u64
     ensures { result ≡ packed_pair (short_pair_answer_of first.now second.now) }
 {
     pack_pair(short_tag::short_pair(first, second))
 }
 
 // The answer from the short tags at two positions of a file of them.
-#[unsafe(no_mangle)]
-pub extern "C" fn poddreshi_short_pair_at(tags: &[u8], first: usize, second: usize) -> u64
+pub fn poddreshi_short_pair_at(tags: &[u8], first: usize, second: usize) -> u64
     ensures { result ≡ packed_pair (short_pair_at_answer_of tags.now first second) }
 {
     pack_pair(short_tag::short_pair_at(tags, first, second))
 }
 
 // Fills the first eight bytes of `out` with a short tag.
-#[unsafe(no_mangle)]
-pub extern "C" fn poddreshi_short_write(
+pub fn poddreshi_short_write(
     plan: u16,
     component: u16,
     depth: u16,
