@@ -30,15 +30,13 @@ pub(crate) fn put_plan(
 ) {
     plan::write_header(12, windows, minimum, file);
     let mut at = from;
-    let mut position = 0;
-    while position < GREATEST_COUNT {
+    for position in 0..GREATEST_COUNT {
         let mut window = stair(position);
         if position < given {
             window = window_at(text, at);
             at = next_word(text, next_word(text, at));
         }
         plan::write_window(window, file, plan::window_place(position as u16));
-        position += 1;
     }
 }
 

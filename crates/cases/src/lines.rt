@@ -2,12 +2,10 @@
 
 // The place behind the next blank, from a place on; the text's length where there is none.
 pub(crate) fn next_word(text: &[u8], from: usize) -> usize {
-    let mut at = from;
-    while at < text.len() {
+    for at in from..text.len() {
         if text[at] == b' ' {
             return at + 1;
         }
-        at += 1;
     }
     text.len()
 }
@@ -24,13 +22,11 @@ fn with_digit(number: u64, digit: u8) -> u64 {
 // The number that begins at a place. A blank or the line's end, both less than any digit, ends it.
 pub(crate) fn number_at(text: &[u8], from: usize) -> u64 {
     let mut number = 0;
-    let mut at = from;
-    while at < text.len() {
+    for at in from..text.len() {
         if text[at] < b'0' {
             return number;
         }
         number = with_digit(number, text[at]);
-        at += 1;
     }
     number
 }

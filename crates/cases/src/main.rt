@@ -15,28 +15,49 @@
 //       plan 12 with this number and a window less, and the same
 // An answer is its kind and three numbers. 0: refused; 2: built; 3: reach; 4: chain; 5: no chain; 6: neighbours; 9: handovers;
 // 13: margin.
+#![tactic(auto)]
+
+ghost use Rattle.std.specs.Prelude.{◌≤◌, length};
+
 mod files;
 mod lines;
 mod tries;
 mod words;
 
-use libc::STDIN_FILENO;
+use std::io::{self, Read};
 
-fn try_lines(text: &[u8]) {
+fn try_lines(rt: &impl Print, text: &[u8]) -> io::Result<()> {
     let mut start = 0;
-    let mut at = 0;
-    while at < text.len() {
+    for at in 0..text.len() {
         if text[at] == b'\n' {
-            tries::try_line(text, start);
+            tries::try_line(rt, text, start)?;
             start = at + 1;
         }
-        words::print_byte(text[at]);
-        at += 1;
+        words::print_byte(rt, text[at])?;
     }
+    Ok(())
 }
 
-fn main() {
+// Fills a buffer from its front, and answers how many bytes came. A read that fails ends the input.
+fn read_full(from: &mut impl Read, buffer: &mut [u8]) -> usize
+    ensures { result ≤ length buffer.new }
+{
+    let mut done = 0;
+    while done < buffer.len() {
+        let more = match from.read(&mut buffer[done..]) {
+            Ok(count) => count,
+            Err(_) => 0,
+        };
+        if more == 0 {
+            break;
+        }
+        done += more;
+    }
+    done
+}
+
+fn main(rt: HostRuntime) -> io::Result<()> {
     let mut text = [0; 4096];
-    let read = io::read_full(STDIN_FILENO, &mut text);
-    try_lines(&text[..read]);
+    let read = read_full(&mut rt.reader(), &mut text);
+    try_lines(&rt, &text[..read])
 }

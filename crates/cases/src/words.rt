@@ -1,43 +1,31 @@
 // Answers and tables on standard output.
-use libc::STDOUT_FILENO;
+use std::io::{self, Write};
 
-// Each mark goes through here, since to lend a literal is dearer to prove than a call.
-pub(crate) fn print_byte(byte: u8) {
-    io::write_all(STDOUT_FILENO, &[byte]);
+pub(crate) fn print_byte(rt: &impl Print, byte: u8) -> io::Result<()> {
+    io::writer(rt).write_all(&[byte])
 }
 
-fn print_number(number: u64) {
-    print_byte(b' ');
-    io::print_decimal(STDOUT_FILENO, number);
+fn print_number(rt: &impl Print, number: u64) -> io::Result<()> {
+    print!(rt; " {number}")
 }
 
-pub(crate) fn print_table(table: [u16; 5]) {
-    print_byte(b':');
-    let mut at = 0;
-    while at < 5 {
-        print_number(table[at] as u64);
-        at += 1;
-    }
+pub(crate) fn print_table(rt: &impl Print, table: [u16; 5]) -> io::Result<()> {
+    print!(rt;
+        ": {} {} {} {} {}",
+        table[0], table[1], table[2], table[3], table[4]
+    )
 }
 
 // An answer's kind and its three numbers, behind a colon.
-pub(crate) fn print_answer(answer: u64) {
-    print_byte(b':');
-    print_number(answer % 65536);
-    print_number(answer / 65536 % 65536);
-    print_number(answer / 4294967296 % 65536);
-    print_number(answer / 281474976710656);
+pub(crate) fn print_answer(rt: &impl Print, answer: u64) -> io::Result<()> {
+    print!(rt; ":")?;
+    print_number(rt, answer % 65536)?;
+    print_number(rt, answer / 65536 % 65536)?;
+    print_number(rt, answer / 4294967296 % 65536)?;
+    print_number(rt, answer / 281474976710656)
 }
 
-// A number that may lie below 0, behind a colon. What lies below 0 is made positive one short of itself, since the least number has no
-// positive one.
-pub(crate) fn print_signed(number: i64) {
-    print_byte(b':');
-    if number < 0 {
-        print_byte(b' ');
-        print_byte(b'-');
-        io::print_decimal(STDOUT_FILENO, (-1 - number) as u64 + 1);
-    } else {
-        print_number(number as u64);
-    }
+// A number that may lie below 0, behind a colon.
+pub(crate) fn print_signed(rt: &impl Print, number: i64) -> io::Result<()> {
+    print!(rt; ": {number}")
 }
