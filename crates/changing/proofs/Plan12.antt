@@ -6,7 +6,6 @@ use mathlib.Core.{Path.◌≡◌, Path.refl, List.List, List.[], List.◌∷◌}
 use lib.ListN.{length, take}
 use Rattle.refusals.specs.Question.{refusal_by, position_question, asked_of}
 use Rattle.refusals.specs.declared.Asked.{Asked}
-use Rattle.refusals.specs.declared.Asked.TheVariants as Asked
 use Rattle.plan.specs.declared.windows.Window.{Window}
 use Rattle.plan.specs.File.{file_of}
 use Rattle.plan.proofs.Plan12.{file}

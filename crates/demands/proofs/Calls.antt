@@ -6,7 +6,7 @@ use native.Mathlib.Omega.{arith}
 use lib.ListN.{drop}
 use borrow.Author.Tests.{eqb-true, eq-eqb}
 use Rattle.sequences.proofs.Tests.{truth, and_left, and_right, and_intro}
-use Rattle.interval_graph.specs.Tree.{component, depth, rank, last_rank}
+use Rattle.interval_graph.specs.Tree.{rank, last_rank}
 use Rattle.interval_graph.specs.Numbers.{Numbers, numbers_of}
 use Rattle.interval_graph.proofs.Sameness.{SameNumbers}
 use Rattle.wire.specs.LittleEndian.{bytes16}

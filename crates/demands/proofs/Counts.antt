@@ -26,12 +26,10 @@ use Rattle.plan.proofs.Accepted.{accepted_validated}
 use Rattle.overlap.proofs.InOrder.{interval_order}
 use Rattle.plan.proofs.Calls.{plan_accepted}
 use Rattle.tag.specs.declared.pairs.PairAnswer.{PairAnswer}
-use Rattle.tag.specs.declared.pairs.PairAnswer.TheVariants as PairAnswer
 use Rattle.tag.specs.Pairing.{agreeing, compare_questions, answer_of, compared_by, pair_answer_of}
 use Rattle.tag.proofs.Pairing.{pair_tag_file}
 use Rattle.numbering.specs.Tables.{numbers_at}
 use Rattle.path.specs.declared.answers.ChainAnswer.{ChainAnswer}
-use Rattle.path.specs.declared.answers.ChainAnswer.TheVariants as ChainAnswer
 use Rattle.path.specs.Chain.{chain_between, chain_questions, chain_found, chain_answer_of, after_chain}
 use Rattle.demands.specs.EndToEnd.{Answered, tag_at, Demand3}
 use Rattle.demands.proofs.Refusals.{outcome_answered}

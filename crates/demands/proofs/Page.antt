@@ -18,7 +18,6 @@ use Rattle.tag.proofs.Pairing.{pair_at_tag_file}
 use Rattle.numbering.specs.Tables.{numbers_at}
 use Rattle.page.specs.declared.Query.{Query}
 use Rattle.page.specs.declared.PageAnswer.{PageAnswer}
-use Rattle.page.specs.declared.PageAnswer.TheVariants as PageAnswer
 use Rattle.page.specs.Page.{query_answer_of, with_answer, filled, page_answer_of, if_filled, after_page}
 use Rattle.page.specs.Passes.{as_one_pair}
 use Rattle.page.proofs.Filled.{map_alike, page_whole, whole_page, pair_filled, as_filled}

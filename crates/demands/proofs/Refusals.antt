@@ -59,7 +59,7 @@ module _ {A : Type 0} (refused : Refusal → A) (accepted : A) (tells : (r s : R
       (λ t. here t (sym (tells q.refusal r (sym (first_no_lem qs refused accepted q t) ∙ e)))) (truth q.yes)
 
   complete : (qs : List Question) (r : Refusal) → FirstNo qs r → first_no qs refused accepted ≡ refused r
-  complete [] r x' = elim x' [ ]
+  complete [] r none = elim none [ ]
   complete (q ∷ qs) r (here t e) = first_no_lem qs refused accepted q t ∙ ap refused (sym e)
   complete (q ∷ qs) r (there t m) = first_yes qs refused accepted q t ∙ complete qs r m
 

@@ -10,7 +10,6 @@ use Rattle.sequences.proofs.Table.{take_overwritten}
 use Rattle.refusals.specs.declared.Refusal.{Refusal}
 use Rattle.refusals.specs.Question.{question, from, first_no, position_question, position_questions, room_question}
 use Rattle.plan.specs.declared.questions.Validation.{Validation}
-use Rattle.plan.specs.declared.questions.Validation.TheVariants as Validation
 use Rattle.plan.specs.File.{plan_number, window_count}
 use Rattle.plan.specs.Validation.{greatest_count, AcceptedPlan, validate_answer_of}
 use Rattle.plan.specs.AcceptedWindows.{AcceptedWindows}
@@ -18,7 +17,6 @@ use Rattle.plan.proofs.Accepted.{accepted_validated}
 use Rattle.plan.proofs.Calls.{plan_refused, plan_accepted, plan_first}
 use Rattle.plan.proofs.Counted.{windows_few, validated_windows}
 use Rattle.tag.specs.declared.pairs.PairAnswer.{PairAnswer}
-use Rattle.tag.specs.declared.pairs.PairAnswer.TheVariants as PairAnswer
 use Rattle.tag_bytes.specs.Fields.{tag_length}
 use Rattle.tag_bytes.specs.TagFile.{tag_file}
 use Rattle.tag.specs.Pairing.{pair_answer_of, pair_at_answer_of}

@@ -16,7 +16,6 @@ use Rattle.tag_bytes.proofs.Fields.{limit_within, length-tag_bytes}
 use Rattle.tag_bytes.proofs.Writing.{tag_bytes_read, written_reads_back, read_tag_bytes, read_accepted}
 use Rattle.tag_bytes.proofs.TagFile.{tag_file_lookup}
 use Rattle.numbering.specs.declared.answers.BuildAnswer.{BuildAnswer}
-use Rattle.numbering.specs.declared.answers.BuildAnswer.TheVariants as BuildAnswer
 use Rattle.minutes.specs.Tables.{parent_of}
 use Rattle.numbering.specs.Tables.{component_of, depth_of, rank_of, last_rank_of, component_count, numbers_at}
 use Rattle.numbering.specs.Numbering.{after_build}

@@ -10,10 +10,8 @@ use Rattle.plan.specs.{File.window_count, Validation.plan_questions, Validation.
 use Rattle.overlap.specs.Overlap.{overlaps}
 use Rattle.tag_bytes.specs.TagFile.{tag_file, lookup_part}
 use Rattle.tag.specs.{declared.pairs.PairAnswer.PairAnswer, Pairing.pair_answer_of}
-use Rattle.tag.specs.declared.pairs.PairAnswer.TheVariants as PairAnswer
 use Rattle.numbering.specs.Tables.{numbers_at}
 use Rattle.path.specs.{declared.answers.ChainAnswer.ChainAnswer, Chain.chain_between, Chain.chain_answer_of, Chain.after_chain}
-use Rattle.path.specs.declared.answers.ChainAnswer.TheVariants as ChainAnswer
 
 -- What is answered of the windows u and v of a file: the answer from their tags, the answer of chain, and its table afterwards.
 pub record Answered (file : List ℕ) (u v : ℕ) (pair : PairAnswer) (chain : ChainAnswer) (out : List ℕ) : Type 0 where

@@ -6,7 +6,6 @@ use mathlib.Core.{Bool.true, Bool.false, Path.◌≡◌, Logic.◌↔◌, Logic.
 use Rattle.refusals.specs.Question.{refusal_by}
 use Rattle.plan.specs.declared.windows.Window.{Window}
 use Rattle.plan.specs.declared.questions.Validation.{Validation}
-use Rattle.plan.specs.declared.questions.Validation.TheVariants as Validation
 use Rattle.plan.specs.File.{plan_number, window_count, minimum_handover, window_at, end_of, file_of}
 use Rattle.plan.specs.Validation.{minimum_passes, AcceptedPlan, validate_answer_of}
 use Rattle.overlap.specs.Overlap.{overlaps}

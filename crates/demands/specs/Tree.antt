@@ -15,7 +15,6 @@ use Rattle.minutes.specs.Tables.{parent_of}
 use Rattle.numbering.specs.Tables.{component_of, depth_of, rank_of, last_rank_of, component_count, numbers_at}
 use Rattle.numbering.specs.{declared.answers.BuildAnswer.BuildAnswer, Numbering.after_build}
 use Rattle.tree.specs.Build.{build_answer_of, after_tags}
-use Rattle.numbering.specs.declared.answers.BuildAnswer.TheVariants as BuildAnswer
 use Rattle.demands.specs.EndToEnd.{tag_at}
 
 -- What build leaves in a table, whatever was in it: the first n entries are those of a function, and what lies past them stays.

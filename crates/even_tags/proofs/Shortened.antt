@@ -25,7 +25,6 @@ use Rattle.tag_bytes.specs.TagFile.{short_tag_file}
 use Rattle.tag_bytes.proofs.Fields.{limit_within}
 use Rattle.tag_bytes.proofs.TagFile.{short_tag_file_cong, short_tag_file-short}
 use Rattle.minutes.specs.declared.answers.TableAnswer.{TableAnswer}
-use Rattle.minutes.specs.declared.answers.TableAnswer.TheVariants as TableAnswer
 use Rattle.minutes.specs.EvenTable.{even_table_questions, even_table_answer_of}
 use Rattle.minutes.proofs.EvenTabled.{even_fills}
 use Rattle.numbering.specs.declared.answers.BuildAnswer.TheVariants.{Built, Refused}

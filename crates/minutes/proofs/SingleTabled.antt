@@ -16,7 +16,6 @@ use Rattle.plan.specs.declared.questions.Validation.{Validation}
 use Rattle.plan.specs.File.{window_count}
 use Rattle.plan.specs.Validation.{greatest_count, validate_answer_of}
 use Rattle.plan.specs.AcceptedWindows.{AcceptedWindows}
-use Rattle.plan.specs.declared.questions.Validation.TheVariants as Validation
 use Rattle.plan.proofs.Calls.{plan_first, plan_refused, one_more_no, one_more_yes}
 use Rattle.plan.proofs.Counted.{windows_few, validated_windows}
 use Rattle.minutes.specs.declared.answers.TableAnswer.{TableAnswer}

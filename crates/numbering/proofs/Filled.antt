@@ -23,7 +23,6 @@ use Rattle.overlap.proofs.Counted.{windows_order}
 use Rattle.forest.specs.Parents.{parent_in, looked_up}
 use Rattle.forest.proofs.Parented.{held_parents}
 use Rattle.minutes.specs.declared.answers.TableAnswer.{TableAnswer}
-use Rattle.minutes.specs.declared.answers.TableAnswer.TheVariants as TableAnswer
 use Rattle.minutes.specs.Tables.{last_of, parent_of}
 use Rattle.minutes.specs.SingleTable.{table_questions, table_answer_of}
 use Rattle.minutes.proofs.SingleTabled.{table_fills}

@@ -1,17 +1,17 @@
 -- What follows from the law overlaps_in_order: the same by a bound, and interval order.
 -- Vocabulary: overlaps_bound, interval_order.
-use Prim.Native.Nat.{ℕ, ◌+◌, ◌-◌, ◌≤◌, ◌<◌, min, max}
-use mathlib.Core.Bool.{true, false, not, ◌&&◌}
-use mathlib.Core.{Path.◌≡◌, Path.refl, Path.sym, Path.ap, Path.◌∙◌, Logic.⊎_elim, Logic.◌↔◌, Logic.◌≢◌, List.List}
+use Prim.Native.Nat.{ℕ, ◌+◌, ◌≤◌, ◌<◌}
+use mathlib.Core.Bool.{true}
+use mathlib.Core.{Path.◌≡◌, Path.refl, Path.sym, Path.◌∙◌, Logic.⊎_elim, Logic.◌≢◌, List.List}
 use native.Mathlib.Omega.{arith}
-use lib.Dec.{ltb, leb, eqb}
-use borrow.Author.Tests.{ltb-true, leb-true, eqb-false, lt-ltb, le-leb, ne_eqb, not-true}
-use Rattle.sequences.proofs.{Search.count_range, Tests.truth, Tests.and_left, Tests.and_right, Tests.and_intro, Tests.iff_equal}
+use lib.Dec.{ltb, leb}
+use borrow.Author.Tests.{ltb-true, leb-true, lt-ltb, le-leb}
+use Rattle.sequences.proofs.{Tests.truth, Tests.iff_equal}
 use Rattle.interval_graph.specs.Order.{IntervalOrder}
-use Rattle.plan.specs.{declared.windows.Window.Window, File.window_count, File.minimum_handover, File.window_at, File.end_of}
+use Rattle.plan.specs.{File.window_count, File.minimum_handover, File.window_at, File.end_of}
 use Rattle.plan.specs.Validation.{AcceptedPlan}
-use Rattle.plan.proofs.Accepted.{Sound, accepted_sound, offsets_sorted}
-use Rattle.overlap.specs.Overlap.{covers, shared_minutes, sharing, overlaps, shares_minute, margin_reaches, bound_of}
+use Rattle.plan.proofs.Accepted.{accepted_sound, offsets_sorted}
+use Rattle.overlap.specs.Overlap.{shared_minutes, overlaps, margin_reaches, bound_of}
 use Rattle.overlap.proofs.Overlap.{shared_minutes_lem, overlaps_minimum, minimum_overlaps, overlaps_in_order}
 
 -- The same by the bound of u, which the searches form once for a window.

@@ -19,7 +19,6 @@ use Rattle.refusals.specs.declared.Asked.TheVariants as asked
 use Rattle.refusals.specs.Question.{asked_of, position_questions}
 use Rattle.refusals.proofs.Question.{after_asked, asked_first}
 use Rattle.plan.specs.declared.questions.Validation.{Validation}
-use Rattle.plan.specs.declared.questions.Validation.TheVariants as Validation
 use Rattle.plan.specs.declared.windows.Window.{Window}
 use Rattle.plan.specs.File.{window_at, end_of}
 use Rattle.plan.specs.Validation.{validate_answer_of}

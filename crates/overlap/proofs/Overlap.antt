@@ -7,16 +7,15 @@
 -- Assumes nothing.
 use Prim.Native.Nat.{ℕ, ◌+◌, ◌-◌, ◌≤◌, ◌<◌, min, max}
 use mathlib.Core.Bool.{true, false, not, ◌&&◌}
-use mathlib.Core.{Path.◌≡◌, Path.refl, Path.sym, Path.ap, Path.◌∙◌, Logic.⊎_elim, Logic.◌↔◌, Logic.◌≢◌, List.List}
+use mathlib.Core.{Path.◌≡◌, Path.ap, Logic.⊎_elim, Logic.◌↔◌, Logic.◌≢◌, List.List}
 use native.Mathlib.Omega.{arith}
 use lib.Dec.{ltb, leb, eqb}
 use borrow.Author.Tests.{ltb-true, leb-true, eqb-false, lt-ltb, le-leb, ne_eqb, not-true}
 use Rattle.sequences.proofs.{Search.count_range, Tests.truth, Tests.and_left, Tests.and_right, Tests.and_intro, Tests.iff_equal}
-use Rattle.interval_graph.specs.Order.{IntervalOrder}
 use Rattle.plan.specs.{declared.windows.Window.Window, File.window_count, File.minimum_handover, File.window_at, File.end_of}
 use Rattle.plan.specs.Validation.{AcceptedPlan}
 use Rattle.plan.proofs.Accepted.{Sound, accepted_sound, offsets_sorted}
-use Rattle.overlap.specs.Overlap.{covers, shared_minutes, sharing, overlaps, shares_minute, margin_reaches, bound_of}
+use Rattle.overlap.specs.Overlap.{covers, shared_minutes, sharing, overlaps, shares_minute, margin_reaches}
 
 -- A window covers the minutes from its offset up to, not including, its end.
 pub covers_minute : (w : Window) (m : ℕ) → covers w m ≡ true → (w.offset ≤ m) × (m < end_of w)

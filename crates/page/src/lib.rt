@@ -54,8 +54,7 @@ fn answered(tags: &[u8], query: Query) -> Query
     }
 }
 
-// Fills every record of a page. Only the loop stands here: the borrow checker covers no function with a reference to structs, so it is
-// proved by a walk of its own (proofs/Filling), and all that it goes by are functions that take a record by value.
+// Fills every record of a page. Only the loop stands here; all that it goes by are functions that take a record by value.
 pub fn page(tags: &[u8], queries: &mut [Query]) -> PageAnswer
     ensures value { result ≡ page_answer_of tags.now }
     ensures queries_after { queries.new ≡ after_page (page_answer_of tags.now) tags.now queries.old }

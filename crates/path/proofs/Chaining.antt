@@ -16,7 +16,6 @@ use Rattle.plan.proofs.Calls.{plan_first, plan_passed}
 use Rattle.minutes.specs.Tables.{parent_of}
 use Rattle.minutes.proofs.SingleTabled.{Tabled}
 use Rattle.path.specs.declared.answers.ChainAnswer.{ChainAnswer}
-use Rattle.path.specs.declared.answers.ChainAnswer.TheVariants as ChainAnswer
 use Rattle.path.specs.Chain.{chain_between, chain_questions, chain_found, chain_answer_of, after_chain}
 use Rattle.path.specs.Steps.{Parented, chain_rest}
 

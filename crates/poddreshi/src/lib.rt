@@ -1,5 +1,5 @@
-// The calls of the C interface on plan files. Each takes numbers and slices alone, is total, and answers with one number of 64 bits, which
-// include/poddreshi.h unpacks.
+// The calls of the C interface on plan files, which `poddreshi_c` exports. Each takes numbers and slices alone, is total, and answers with
+// one number of 64 bits, which include/poddreshi.h unpacks.
 #![tactic(auto)]
 
 mod changes;

@@ -1,5 +1,5 @@
-// The calls of the C interface that need no plan: what a reader links. Each takes numbers and slices alone, is total, and answers with one
-// number of 64 bits, which include/poddreshi.h unpacks.
+// The calls of the C interface that need no plan, which `poddreshi_reader_c` exports: what a reader links. Each takes numbers and slices
+// alone, is total, and answers with one number of 64 bits, which include/poddreshi.h unpacks.
 #![tactic(auto)]
 
 mod pages;

@@ -13,7 +13,7 @@ ghost use Rattle.tag_bytes.specs.Writing.{after_short_write, after_write, short_
 
 use poddreshi_reader::PackedQuery;
 
-// Fills every record of a page. It is the loop of `page::page`, over records that C can hold.
+// Fills every record of a page with the answer for its two positions.
 #[unsafe(no_mangle)]
 pub extern "C" fn poddreshi_page(tags: &[u8], queries: &mut [PackedQuery]) -> u64
     ensures value { result ≡ packed_page (page_answer_of tags.now) }
@@ -30,8 +30,7 @@ pub extern "C" fn poddreshi_pair(first: &[u8], second: &[u8]) -> u64
     poddreshi_reader::poddreshi_pair(first, second)
 }
 
-// The answer from the tags at two positions of a tag file. It does as `tag::pair_at`, but by the call above: the rule is then
-// compiled once, with its packing, and a pair costs less.
+// The answer from the tags at two positions of a tag file.
 #[unsafe(no_mangle)]
 pub extern "C" fn poddreshi_pair_at(tags: &[u8], first: usize, second: usize) -> u64
     ensures { result ≡ packed_pair (pair_at_answer_of tags.now first second) }
@@ -39,8 +38,7 @@ pub extern "C" fn poddreshi_pair_at(tags: &[u8], first: usize, second: usize) ->
     poddreshi_reader::poddreshi_pair_at(tags, first, second)
 }
 
-// Where in a tag file the tag at a position begins. `tag::lookup` hands back the part that begins there; a part does not
-// cross into C.
+// Where in a tag file the tag at a position begins.
 #[unsafe(no_mangle)]
 pub extern "C" fn poddreshi_lookup(tags: &[u8], at: usize, offset: &mut usize) -> u64
     ensures value { result ≡ packed_lookup (lookup_answer_of tags.now at) }

@@ -7,15 +7,7 @@ use mathlib.Core.{Bool.Bool, Path.◌≡◌, Path.refl, Path.sym, Path.ap, Path.
 use native.Mathlib.Omega.{arith}
 use native.Mathlib.Nat.{le_antisymm}
 use Rattle.sequences.proofs.Tests.{lt_or_ge}
-use Rattle.interval_graph.specs.{
-  Order.IntervalOrder,
-  Tree.parent,
-  Tree.ancestor,
-  Tree.depth,
-  Tree.root,
-  Tree.component,
-  Reach.last_in_component,
-}
+use Rattle.interval_graph.specs.{Order.IntervalOrder, Tree.parent, Tree.ancestor, Tree.depth, Tree.root, Reach.last_in_component}
 use Rattle.interval_graph.proofs.Ancestor.{ancestor_zero, ancestor_parent, ancestor_add, ancestor_le}
 use Rattle.interval_graph.proofs.Depth.{root_le, depth_step, depth_ancestor, root_of_ancestor, fixed_is_root}
 use Rattle.interval_graph.proofs.{Component.root_component, Component.component_root, Parent.tree}

@@ -34,7 +34,6 @@ use Rattle.interval_graph.proofs.Greatest.{end_window, end_root, between_ends, f
 use Rattle.refusals.specs.declared.Refusal.{Refusal}
 use Rattle.refusals.specs.Question.{refusal_by, question, position_question}
 use Rattle.plan.specs.declared.questions.Validation.{Validation}
-use Rattle.plan.specs.declared.questions.Validation.TheVariants as Validation
 use Rattle.plan.specs.{File.window_count, Validation.greatest_count, Validation.validate_answer_of}
 use Rattle.overlap.specs.Overlap.{overlaps}
 use Rattle.plan.specs.AcceptedWindows.{AcceptedWindows}

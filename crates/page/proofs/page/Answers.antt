@@ -1,8 +1,8 @@
 -- `page::page` meets its contract: the records before `i` are filled, and all that are to be filled at the end.
-use Rattle.std.proofs.Common.{◌≡◌, ◌≤◌, add-one, length, refl, sym, ap, ◌∙◌, arith}
+use Rattle.std.proofs.Common.{◌≡◌, add-one, length, refl, ◌∙◌, arith}
 use Rattle.page.specs.Page.{page_answer_of, to_fill, filled, after_page}
 use Rattle.page.specs.Passes.{as_one_pair}
-use Rattle.page.proofs.Filled.{up_to, up_to_length, up_to_more, to_fill_few, as_filled, page_filled}
+use Rattle.page.proofs.Filled.{up_to, up_to_more, to_fill_few, as_filled, page_filled}
 use Rattle.page.proofs.page.Goals as goal
 
 pub loop-i-init : goal.loop-i-init

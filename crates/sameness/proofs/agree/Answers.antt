@@ -1,5 +1,4 @@
 -- `sameness::agree` meets its contract. The loop's invariant: the entries so far are equal. The measure is what is left.
-use Prim.Native.Nat.{◌-◌}
 use mathlib.Core.{Path.sym}
 use native.Mathlib.Omega.{arith}
 use borrow.Author.Tests.{eq-eqb, ne_eqb}

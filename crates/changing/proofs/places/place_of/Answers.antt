@@ -1,5 +1,4 @@
 -- `changing::places::place_of` meets its contract. The loop's invariant is `Counted`; the measure is what is left of the windows.
-use Prim.Native.Nat.{◌-◌}
 use native.Mathlib.Omega.{arith}
 use Rattle.changing.proofs.Placed.{counted_start, counted_few, counted_more, counted_kept}
 use Rattle.changing.proofs.places.place_of.Goals.{else-window_at-offset, then-window_at-offset}

@@ -1,6 +1,5 @@
 -- `even_tags::tagging::write_short_tags` meets its contract. The loop's invariant is `Tagged`; the measure is what is left of the
 -- windows.
-use Prim.Native.Nat.{◌-◌}
 use Rattle.tag_bytes.specs.Fields.{short_tag_with}
 use Rattle.tag_bytes.specs.TagFile.{short_tag_file}
 use Rattle.tag_bytes.proofs.Tagged.{tagged_start, short_turn, tagged_end}

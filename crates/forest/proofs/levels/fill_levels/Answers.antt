@@ -1,5 +1,4 @@
 -- `forest::levels::fill_levels` meets its contract. The loop's invariant is `Leveled`; the measure is what is left of the windows.
-use Prim.Native.Nat.{◌-◌}
 use native.Mathlib.Omega.{arith}
 use Rattle.sequences.proofs.Table.{filling_end}
 use Rattle.forest.proofs.Parented.{table_forest}

@@ -1,6 +1,5 @@
 -- `forest::lookups::look_up` meets its contract. The loop's invariant: the table is being filled, and what is not yet written is as it
 -- was. The measure is what is left of it.
-use Prim.Native.Nat.{◌-◌}
 use native.Mathlib.Omega.{arith}
 use Rattle.sequences.proofs.Table.{filling_start, filling_turn, filling_past, filling_end}
 use Rattle.forest.proofs.lookups.look_up.Goals as goal

@@ -1,5 +1,4 @@
 -- `forest::ranks::assign_ranks` meets its contract. The loop's invariant is `Ranked`; the measure is what is left of the windows.
-use Prim.Native.Nat.{◌-◌}
 use native.Mathlib.Omega.{arith}
 use Rattle.sequences.proofs.Table.{filling_end}
 use Rattle.forest.proofs.Parented.{table_forest}

@@ -1,6 +1,5 @@
 -- `minutes::evens::ask_even` meets its contract. The loop's invariant is `Rising`: the end before `position`, and the questions
 -- that are left give the answer of all. The measure is what is left of the windows.
-use Prim.Native.Nat.{◌-◌}
 use mathlib.Core.Path.{ap, ◌∙◌}
 use native.Mathlib.Omega.{arith}
 use Rattle.plan.specs.File.{end_of}

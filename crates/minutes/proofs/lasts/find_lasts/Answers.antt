@@ -1,6 +1,5 @@
 -- `minutes::lasts::find_lasts` meets its contract. The loop's invariant: the table is being filled. The measure is what is left of the
 -- windows.
-use Prim.Native.Nat.{◌-◌}
 use Rattle.sequences.proofs.Table.{filling_start, filling_turn, filling_end}
 use Rattle.minutes.proofs.Prepared.{prepared_do_not_fall, last_found}
 use Rattle.minutes.proofs.lasts.find_lasts.Goals as goal

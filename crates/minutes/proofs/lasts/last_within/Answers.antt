@@ -1,6 +1,5 @@
 -- `minutes::lasts::last_within` meets its contract. The loop's invariant is `Bracket`, and that its width can be quartered; the measure is the
 -- width.
-use Prim.Native.Nat.{◌-◌}
 use Rattle.minutes.proofs.Searching.{quarter_turn, quartered_more}
 use Rattle.minutes.proofs.lasts.last_within.Goals as goal
 

@@ -1,4 +1,3 @@
-use Prim.Native.Nat.{◌-◌}
 use Rattle.minutes.specs.Passes.{Quartered}
 use Rattle.minutes.proofs.Searching.{Bracket}
 use Rattle.minutes.proofs.lasts.last_within.Given as goal

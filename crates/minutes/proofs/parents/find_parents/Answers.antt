@@ -1,6 +1,5 @@
 -- `minutes::parents::find_parents` meets its contract. The loop's invariant is `Fingers`, and that the finger has its position's
 -- bound; the measure is what is left of the windows.
-use Prim.Native.Nat.{◌-◌}
 use native.Mathlib.Omega.{arith}
 use Rattle.sequences.proofs.Table.{filling_start, filling_end}
 use Rattle.plan.proofs.Counted.{windows_few}

@@ -1,6 +1,5 @@
 -- `minutes::windows::read_offsets` meets its contract. The loop's invariant: the table is being filled. The measure is what is left
 -- of the windows.
-use Prim.Native.Nat.{◌-◌}
 use Rattle.sequences.proofs.Table.{filling_start, filling_turn, filling_end}
 use Rattle.minutes.proofs.windows.read_offsets.Goals as goal
 

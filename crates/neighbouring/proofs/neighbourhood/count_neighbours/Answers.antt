@@ -1,6 +1,5 @@
 -- `neighbouring::neighbourhood::count_neighbours` meets its contract. The loop's invariant is `Counted`; the measure is what is left of the
 -- windows before.
-use Prim.Native.Nat.{◌-◌}
 use native.Mathlib.Omega.{arith}
 use Rattle.sequences.proofs.Tests.{byte_most}
 use Rattle.neighbouring.proofs.Meeting.{last_within, meets_earlier}

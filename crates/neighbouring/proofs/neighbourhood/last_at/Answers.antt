@@ -1,5 +1,4 @@
 -- `neighbouring::neighbourhood::last_at` meets its contract. The loop's invariant is `Halving`; the measure is how far its two windows lie apart.
-use Prim.Native.Nat.{◌-◌}
 use native.Mathlib.Omega.{arith}
 use Rattle.plan.proofs.Counted.{windows_few}
 use Rattle.neighbouring.proofs.Meeting.{halving_start, halving_found}

@@ -1,6 +1,5 @@
 -- `neighbouring::neighbourhood::write_earlier` meets its contract. The loop's invariant is `Listed`; the measure is what is left of the windows
 -- before.
-use Prim.Native.Nat.{◌-◌}
 use mathlib.Core.{Path.◌∙◌}
 use native.Mathlib.Omega.{arith}
 use Rattle.plan.proofs.Counted.{window_within}

@@ -1,5 +1,4 @@
 -- `neighbouring::neighbourhood::write_run` meets its contract. The loop's invariant is `Running`; the measure is what is left of the run.
-use Prim.Native.Nat.{◌-◌}
 use Rattle.neighbouring.proofs.Neighbouring.{running_start, running_turn}
 use Rattle.neighbouring.proofs.neighbourhood.write_run.Goals as goal
 

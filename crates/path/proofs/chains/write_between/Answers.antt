@@ -2,10 +2,9 @@
 use native.Mathlib.Omega.{arith}
 use Rattle.path.proofs.Climbing.{handed_few}
 use Rattle.path.proofs.Walking.{between_apart, between_walked, between_length, rest_none, rest_short, rest_written}
-use Rattle.std.proofs.Common.{rules, ◌≡◌, ◌≤◌, ◌<◌, length, ℕ, ◌+◌, ◌-◌, ◌*◌, ◌/◌, ◌%◌, Bool, true, false, nat_eq, nat_lt, List, [], ◌∷◌, ◌++◌, slice_index_or, slice_set, bit_and, bit_or, Fits, w8, w32, w64, Bor, MutBor}
-use Rattle.plan.specs.File.{window_count}
-use Rattle.path.specs.Chain.{chain_between, chain_answer_of, after_chain}
-use Rattle.path.specs.Steps.{Parented, chain_rest}
+use Rattle.std.proofs.Common.{◌≡◌, length, ◌+◌}
+use Rattle.path.specs.Chain.{chain_between, after_chain}
+use Rattle.path.specs.Steps.{chain_rest}
 use Rattle.path.proofs.chains.write_between.Goals as goal
 
 pub returns-then-later-steps-clause-value : goal.returns-then-later-steps-clause-value

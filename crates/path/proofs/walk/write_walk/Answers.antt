@@ -1,5 +1,4 @@
 -- `path::walk::write_walk` meets its contract. The loop's invariant is `Stepping`; the measure is what is left of the steps.
-use Prim.Native.Nat.{◌-◌}
 use native.Mathlib.Omega.{arith}
 use Rattle.path.proofs.Climbing.{handed_few, handed_long, handed_parent}
 use Rattle.path.proofs.Walking.{stepping_start, stepping_low, stepping_turn, stepping_end}

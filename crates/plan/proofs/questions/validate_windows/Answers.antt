@@ -1,6 +1,5 @@
 -- `plan::questions::validate_windows` meets its contract. The loop's invariant is `Passed`: the offset before `position`, and
 -- the questions that are left give the answer of all. The measure is what is left of the windows.
-use Prim.Native.Nat.{◌-◌}
 use mathlib.Core.Path.{sym, ◌∙◌}
 use Rattle.plan.proofs.Validated.{passed_start, passed_turn, passed_refused, passed_end, window_at_lem}
 use Rattle.plan.proofs.questions.validate_windows.Goals as goal

@@ -1,5 +1,5 @@
 -- `poddreshi_reader::pages::poddreshi_page` meets its contract: the records before `i` are filled, and all that are to be filled at the end.
-use Rattle.std.proofs.Common.{◌≡◌, ◌≤◌, ◌%◌, ℕ, List, length, add-one, refl, ap, ◌∙◌, arith}
+use Rattle.std.proofs.Common.{◌≡◌, ◌%◌, ℕ, List, length, add-one, refl, ap, ◌∙◌, arith}
 use Rattle.tag_bytes.specs.Fields.{tag_length}
 use Rattle.page.specs.Page.{page_answer_of, to_fill}
 use Rattle.page.proofs.Filled.{up_to, up_to_more, to_fill_few, pair_filled, page_filled}

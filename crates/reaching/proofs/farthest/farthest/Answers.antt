@@ -4,11 +4,7 @@ use native.Mathlib.Omega.{arith}
 use Rattle.plan.proofs.Counted.{windows_few}
 use Rattle.reaching.proofs.Reached.{upward, top_window, root_window, rooted_found, rooted_few, top_low, top_high, smaller_few}
 use Rattle.reaching.proofs.Reached.{farthest_within, behind_window, larger_few, farthest_beyond}
-use Rattle.std.proofs.Common.{rules, ◌≡◌, ◌<◌, ℕ, ◌+◌, ◌-◌, ◌*◌, ◌≤◌, length, ◌/◌, ◌%◌, Bool, true, false, nat_eq, nat_lt, List, [], ◌∷◌, ◌++◌, slice_index_or, slice_set, bit_and, bit_or, Fits, w8, w32, w64, Bor, MutBor}
-use Rattle.sequences.specs.Table.{Holds}
-use Rattle.plan.specs.AcceptedWindows.{AcceptedWindows}
-use Rattle.minutes.specs.Tables.{parent_of}
-use Rattle.reaching.specs.Reach.{reach_of, reach_answer_of}
+use Rattle.std.proofs.Common.{◌<◌, ℕ, ◌≤◌, length, slice_index_or}
 use Rattle.reaching.proofs.farthest.farthest.Goals as goal
 
 pub top_of-requires-clause-upward : goal.top_of-requires-clause-upward

@@ -1,5 +1,4 @@
 -- `reaching::levels::levels_from` meets its contract. The loop's invariant is `Levelling`; the measure is what is left of the windows.
-use Prim.Native.Nat.{◌-◌}
 use Rattle.reaching.proofs.Levelling.{levelling_start, levelling_level, levelling_same, levelling_stops, levelling_ends}
 use Rattle.reaching.proofs.levels.levels_from.Goals as goal
 

@@ -1,5 +1,4 @@
 -- `reaching::overlaps::behind_last` meets its contract. The loop's invariant is `Passing`; the measure is what is left up to `to`.
-use Prim.Native.Nat.{◌-◌}
 use native.Mathlib.Omega.{arith}
 use Rattle.plan.proofs.Counted.{window_within}
 use Rattle.reaching.proofs.Seeking.{at_window, passing_start, passing_turn, passing_found}

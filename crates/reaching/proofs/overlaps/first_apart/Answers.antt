@@ -1,5 +1,4 @@
 -- `reaching::overlaps::first_apart` meets its contract. The loop's invariant is `Seeking`; the measure is what is left up to `top`.
-use Prim.Native.Nat.{◌-◌}
 use native.Mathlib.Omega.{arith}
 use Rattle.plan.proofs.Counted.{window_within}
 use Rattle.reaching.proofs.Seeking.{seeking_turn, seeking_found}

@@ -1,5 +1,4 @@
 -- `tree::tagging::write_tags` meets its contract. The loop's invariant is `Tagged`; the measure is what is left of the windows.
-use Prim.Native.Nat.{◌-◌}
 use Rattle.tag_bytes.specs.TagFile.{tag_file}
 use Rattle.tag_bytes.proofs.Tagged.{tagged_start, tag_turn, tagged_end}
 use Rattle.tree.proofs.tagging.write_tags.Goals as goal
