@@ -20,6 +20,7 @@ from .sources import LIBRARIES
 
 HOW_LONG = "some three minutes on two processors the first time, and less after a change"
 STATIC = "libpoddreshi.a"
+PROCESSOR = ("--cpu", "x86-64")  # any of them: what rt takes by itself leaves out the oldest
 
 
 def ensure(root: Path) -> Path:
@@ -64,9 +65,10 @@ def _alone(lock: Path) -> Iterator[None]:
 def _make(root: Path, done: Path) -> None:
     files.say(f"poddreshi: proving and building the library: {HOW_LONG}")
     for name in LIBRARIES:
-        _run(_crate(root, name), ["rt", "lib"], "the library is not proved, so it was not built")
+        _run(_crate(root, name), ["rt", "lib", *PROCESSOR], "the library is not proved, so it was not built")
     # It is made by being run; with nothing to read it prints a line, which nobody wants.
-    _run(_crate(root, "listing"), ["rt", "run"], "the listing program is not proved, so it was not built", subprocess.DEVNULL)
+    otherwise = "the listing program is not proved, so it was not built"
+    _run(_crate(root, "listing"), ["rt", "run", *PROCESSOR], otherwise, subprocess.DEVNULL)
     older = list(done.parent.iterdir()) if done.parent.is_dir() else []
     with files.new_folder(done) as folder:
         lib = folder / "lib"

@@ -21,7 +21,11 @@ lib) mkdir -p out && cp "$BUILT/lib/libpoddreshi.a" "out/lib$name.a" ;;
 run) mkdir -p out && cp "$BUILT/lib/poddreshi/listing" out/ && echo "refused 1 0" ;;
 esac
 """
-PROVED = ["rt lib in poddreshi_c", "rt lib in poddreshi_reader_c", "rt run in listing"]
+PROVED = [
+    "rt lib --cpu x86-64 in poddreshi_c",
+    "rt lib --cpu x86-64 in poddreshi_reader_c",
+    "rt run --cpu x86-64 in listing",
+]
 
 
 class Checkout(Case):
