@@ -1,5 +1,5 @@
 -- A plan with a window more: where the windows stand in it, and that it is accepted.
--- Vocabulary: place_le, place_before, place_behind, added-*.
+-- Vocabulary: place_le, place_before, place_behind, added_*.
 -- Assumes nothing.
 use Prim.Native.Nat.{ℕ, suc, ◌-◌, ◌≤◌, ◌<◌}
 use mathlib.Core.{Bool.Bool, Bool.true, Path.◌≡◌, Path.ap, Path.◌∙◌, Logic.⊎_elim, List.List}

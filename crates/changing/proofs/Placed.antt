@@ -1,5 +1,5 @@
 -- The pass that counts the windows with at most an offset.
--- Vocabulary: Counted, counted-*.
+-- Vocabulary: Counted, counted_*.
 -- Assumes nothing.
 use Prim.Native.Nat.{ℕ, ◌+◌, ◌≤◌, ◌<◌}
 use mathlib.Core.{Path.◌≡◌, Path.refl, Path.sym, Path.◌∙◌, List.List}

@@ -1,5 +1,5 @@
 -- A plan with a window less: where the windows stand in it, and that it is accepted.
--- Vocabulary: withdrawn-*.
+-- Vocabulary: withdrawn_*.
 -- Assumes nothing.
 use Prim.Native.Nat.{ℕ, suc, ◌≤◌, ◌<◌}
 use mathlib.Core.{Path.◌≡◌, Path.refl, Path.◌∙◌, Logic.⊎_elim, List.List}

@@ -14,7 +14,7 @@ use plan::{HEADER_LENGTH, WINDOW_LENGTH, Window};
 fn copy_part(file: &[u8], from: usize, end: usize, changed: &mut [u8], to: usize)
     requires from_le_end { from ≤ end }
     requires end_in_bounds { end ≤ length file.now }
-    requires from_in_bounds { to + (end - from) ≤ length changed.old }
+    requires part_fits { to + (end - from) ≤ length changed.old }
     ensures { changed.new ≡ placed changed.old to (take (end - from) (drop from file.now)) }
 {
     changed[to..to + (end - from)].copy_from_slice(&file[from..end]);

@@ -9,7 +9,7 @@
 --   record R where …   R holds exactly if each of its fields, the lines below it, does
 --   x ∷ l, l ++ m      the list l with x in front of it; the list l and then m. [] is the empty list
 --   ℕ                  the numbers 0, 1, 2, …; a difference that would lie below 0 is 0. Files, tags and tables are lists of them
---   ℤ                  the whole numbers, those below 0 among them: pos n is n, negℤ (pos n) is −n; a -ℤ b: a less b; a ≤ℤ b: at most b
+--   ℤ                  the whole numbers, those below 0 among them: pos n is n, neg_ℤ (pos n) is −n; a -ℤ b: a less b; a ≤ℤ b: at most b
 --   module _ (x : A) where        all that is indented below it takes x as its first argument
 --   abbrev, unfoldable, pub       say how proofs may use a definition, and nothing of what it means
 --   f.g               the field g of f. Names such as PairAnswer.NoChain are the answers of the code's own enums

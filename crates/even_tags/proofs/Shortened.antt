@@ -1,5 +1,5 @@
 -- The file of short tags: its answer by that of the parents, and the tags of an even plan's tables.
--- Vocabulary: short-*.
+-- Vocabulary: short_*.
 -- Assumes nothing.
 use Prim.Native.Nat.{ℕ, ◌*◌, ◌/◌, ◌≤◌, ◌<◌, min}
 use mathlib.Core.{Path.◌≡◌, Path.sym, Path.ap, Path.◌∙◌, List.List}

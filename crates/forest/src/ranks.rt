@@ -16,8 +16,8 @@ fn assign_ranks(parents: &[u16], entries: usize, sizes: &[u16], next: &mut [u16]
     requires entries_le_greatest_count { entries ≤ greatest_count }
     requires entries_in_bounds { entries ≤ length parents.now }
     requires holds { Holds sizes.now (size entries (parent_in parents.now)) entries }
-    requires entries_in_bounds_2 { entries ≤ length next.old }
-    requires entries_in_bounds_3 { entries ≤ length ranks.old }
+    requires entries_in_next { entries ≤ length next.old }
+    requires entries_in_ranks { entries ≤ length ranks.old }
     ensures { ranks.new ≡ overwritten ranks.old (table (rank entries (parent_in parents.now)) entries) }
 {
     let mut position = 0;

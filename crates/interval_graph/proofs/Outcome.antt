@@ -1,6 +1,6 @@
 -- Laws of the rule on the numbers of two windows, whatever plan they come from: what its cases say, that the order
 -- of the two does not count, and how large a count can be.
--- Vocabulary: between-*, short-*, equal-*, comes_first-*, outcome-*.
+-- Vocabulary: between_*, short_*, equal_*, comes_first-*, outcome_*.
 -- Assumes nothing.
 use Prim.Native.Nat.{ℕ, ◌+◌, ◌-◌, ◌≤◌, ◌<◌}
 use mathlib.Core.{Bool.true, Bool.false, Bool.◌&&◌, Bool.◌||◌, Path.◌≡◌, Path.refl, Path.sym, Path.ap, Path.◌∙◌}

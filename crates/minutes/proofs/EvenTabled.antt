@@ -1,5 +1,5 @@
 -- A table of an even plan: the answer after each test, and that a table which is filled is an accepted plan's.
--- Vocabulary: even-*.
+-- Vocabulary: even_*.
 -- Assumes nothing.
 use Prim.Native.Nat.{ℕ, ◌≤◌, ◌<◌}
 use mathlib.Core.List.Memᴰ

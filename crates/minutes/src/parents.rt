@@ -26,7 +26,7 @@ fn first_past(file: &[u8], minimum: u32, offset: u32, finger: Finger, to: usize)
     requires at_le_to { finger.at ≤ to }
     requires to_bound { to < window_count file.now }
     ensures first_past { FirstPast (bound_at file.now) offset finger.at to result.at }
-    ensures bound_value_2 { result.bound ≡ bound_at file.now result.at }
+    ensures bound_after { result.bound ≡ bound_at file.now result.at }
 {
     let mut at = finger.at;
     let mut bound = finger.bound;

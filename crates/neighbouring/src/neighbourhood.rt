@@ -66,7 +66,7 @@ fn count_neighbours(file: &[u8], at: usize, last: usize) -> usize
 fn write_earlier(file: &[u8], at: usize, out: &mut [u16]) -> usize
     requires accepted_plan { AcceptedPlan file.now }
     requires at_bound { at < window_count file.now }
-    requires at_in_bounds { length (passing (overlaps file.now at) 0 at) ≤ length out.old }
+    requires room { length (passing (overlaps file.now at) 0 at) ≤ length out.old }
     ensures value { result ≡ length (passing (overlaps file.now at) 0 at) }
     ensures out_after { out.new ≡ overwritten out.old (passing (overlaps file.now at) 0 at) }
 {
@@ -101,7 +101,7 @@ fn write_neighbours(file: &[u8], at: usize, last: usize, out: &mut [u16])
     requires accepted_plan { AcceptedPlan file.now }
     requires at_bound { at < window_count file.now }
     requires last_value { last ≡ last_of file.now at }
-    requires at_in_bounds { length (neighbours_of file.now at) ≤ length out.old }
+    requires room { length (neighbours_of file.now at) ≤ length out.old }
     ensures { out.new ≡ overwritten out.old (neighbours_of file.now at) }
 {
     let written = write_earlier(file, at, out);

@@ -1,5 +1,8 @@
--- What follows from the law overlaps_in_order: the same by a bound, and interval order.
+-- What follows from `overlaps_in_order`: in an accepted plan u before v overlap exactly if v begins before the bound of u; and its overlap
+-- is in interval order, which is all that the theory of `interval_graph` asks. It stands by itself, so that an edit which makes that law
+-- false is refused for it alone.
 -- Vocabulary: overlaps_bound, interval_order.
+-- Assumes nothing.
 use Prim.Native.Nat.{ℕ, ◌+◌, ◌≤◌, ◌<◌}
 use mathlib.Core.Bool.{true}
 use mathlib.Core.{Path.◌≡◌, Path.refl, Path.sym, Path.◌∙◌, Logic.⊎_elim, Logic.◌≢◌, List.List}

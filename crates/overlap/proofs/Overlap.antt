@@ -1,9 +1,7 @@
 -- Laws of overlap. `shared_minutes` is the smaller end less the greater offset; in an accepted plan u before v overlap exactly if the
--- end of u less the offset of v reaches the minimum, and exactly if v begins before the bound of u; the overlap of an
--- accepted plan is in interval order, which is all that the theory of `interval_graph` asks; and with minimum 1 two windows overlap
--- exactly if some minute is covered by both.
--- Vocabulary: covers_minute, shared_minutes_lem, overlaps_minimum, minimum_overlaps, overlaps_in_order, overlaps_bound, touching_apart,
--- interval_order, as_before, shares_covered.
+-- end of u less the offset of v reaches the minimum; and with minimum 1 two windows overlap exactly if some minute is covered by both.
+-- Vocabulary: covers_minute, shared_minutes_lem, overlaps_minimum, minimum_overlaps, overlaps_in_order, touching_apart, as_before,
+-- shares_covered.
 -- Assumes nothing.
 use Prim.Native.Nat.{ℕ, ◌+◌, ◌-◌, ◌≤◌, ◌<◌, min, max}
 use mathlib.Core.Bool.{true, false, not, ◌&&◌}

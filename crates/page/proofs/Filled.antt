@@ -1,6 +1,6 @@
 -- Laws of a page: its answer, a list of which the first elements are replaced, and that replacing each by the answer of a single pair
 -- fills the page.
--- Vocabulary: up_to, upTo-*, map_alike, to_fill_few, query_asked, page_9, page_whole, whole_page, pair_filled, as_filled, page_filled.
+-- Vocabulary: up_to, up_to_*, map_alike, to_fill_few, query_asked, page_9, page_whole, whole_page, pair_filled, as_filled, page_filled.
 -- Assumes nothing.
 use Prim.Native.Nat.{ℕ, zero, suc, ◌%◌, ◌<◌, ◌≤◌}
 use mathlib.Core.{Path.◌≡◌, Path.refl, Path.sym, Path.ap, Path.◌∙◌, Path.subst, Logic.⊎_elim}

@@ -1,5 +1,5 @@
 -- Even plans: no end falls from one window to the next. And the pass that asks question 13, before the window at a position.
--- Vocabulary: even_ends, ends_even; Rising, rising-*.
+-- Vocabulary: even_ends, ends_even; Rising, rising_*.
 -- Assumes nothing.
 use Prim.Native.Nat.{ℕ, zero, suc, ◌+◌, ◌≤◌, ◌<◌}
 use mathlib.Core.List.Memᴰ

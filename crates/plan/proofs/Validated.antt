@@ -1,5 +1,5 @@
 -- Laws of questions 1 to 6 and 14: what each answer of `validate` shows, over plain numbers and lists.
--- Vocabulary: window_at_lem, ask-*, refused-*, windows_answer, Passed, passed-*.
+-- Vocabulary: window_at_lem, ask_*, refused_*, windows_answer, Passed, passed_*.
 -- Assumes nothing.
 use Prim.Native.Nat.{ℕ, ◌+◌, ◌-◌, ◌≤◌, ◌<◌}
 use mathlib.Core.{Bool.true, Bool.false, Path.◌≡◌, Path.refl, Path.sym, Path.ap, Path.◌∙◌, List.List, List.[], List.◌∷◌}

@@ -31,7 +31,7 @@ pub(crate) fn behind_last(file: &[u8], minimum: u32, at: usize, to: usize) -> us
     requires accepted_plan { AcceptedPlan file.now }
     requires minimum_value { minimum ≡ minimum_handover file.now }
     requires to_bound { to < window_count file.now }
-    requires at_bound { last_of file.now at < to }
+    requires last_before_to { last_of file.now at < to }
     ensures { result ≡ suc (last_of file.now at) }
 {
     let end = plan::window_end(plan::window_at(file, at as u16));

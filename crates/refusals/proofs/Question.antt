@@ -1,6 +1,6 @@
 -- Laws of a list of questions, however long: what one that is answered "yes" or "no" does to the answer, questions after others,
 -- questions put to an input or about a window, and what it says that none is answered "no".
--- Vocabulary: first-*, asked-*, all-*, each-*, Asking, asking-*.
+-- Vocabulary: first_*, asked_*, all_*, each_*, Asking, asking_*.
 -- Assumes nothing.
 use Prim.Native.Nat.{ℕ, zero, suc, ◌+◌, ◌-◌, ◌≤◌, ◌<◌}
 use mathlib.Core.{Bool.true, Bool.false, Bool.◌&&◌, Path.◌≡◌, Path.refl, Path.sym, Path.◌∙◌, Logic.◌⊎◌, Logic.inl, Logic.inr, Logic.⊎_elim}

@@ -1,7 +1,7 @@
 -- Two plans are the same exactly if they have equal n and every window's last is the same; and exactly if they have equal n and
 -- every window's component, depth, rank and rank of the last are the same: "equal tags apart from the plan number say just
 -- that".
--- Vocabulary: pairs_iff_overlaps, lasts_pairs, same_iff_numbers, same-*.
+-- Vocabulary: pairs_iff_overlaps, lasts_pairs, same_iff_numbers, same_*.
 -- Assumes nothing.
 use Prim.Native.Nat.{ℕ}
 use mathlib.Core.{Bool.Bool, Bool.true, Bool.false, Bool.cond, Bool.beq, Path.◌≡◌, Path.refl, Path.sym, Path.◌∙◌, Logic.◌↔◌}

@@ -19,8 +19,8 @@ pub enum SameAnswer {
 
 // Whether the first entries of two tables are equal.
 fn agree(first: &[u16], second: &[u16], entries: usize) -> bool
-    requires entries_in_bounds { entries ≤ length first.now }
-    requires entries_in_bounds_2 { entries ≤ length second.now }
+    requires entries_in_first { entries ≤ length first.now }
+    requires entries_in_second { entries ≤ length second.now }
     ensures { result ≡ every (λ k. eqb (get_or first.now k 0) (get_or second.now k 0)) entries }
 {
     let mut position = 0;

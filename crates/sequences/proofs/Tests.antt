@@ -1,5 +1,5 @@
 -- Tests and cases: what every proof above splits on.
--- Vocabulary: cond_cases, lt_or_ge, equal_or_not, truth (is a test true or false), byte_most, and-*, or-*, not-*.
+-- Vocabulary: cond_cases, lt_or_ge, equal_or_not, truth (is a test true or false), byte_most, and_*, or_*.
 -- Assumes nothing.
 use Prim.Native.Nat.{ℕ, ◌≤◌, ◌<◌}
 use mathlib.Core.Bool.{Bool, true, false, cond, ◌&&◌, ◌||◌, true≢false}

@@ -1,6 +1,6 @@
 -- Laws of the answer from two short tags: by their readings, by the numbers of two that are read, in either order; and for two
 -- positions of a file of them.
--- Vocabulary: short-*, pair_short_bytes, unequal_depth, equal_fields.
+-- Vocabulary: short_*, pair_short_bytes, unequal_depth, equal_fields.
 -- Assumes nothing.
 use Prim.Native.Nat.{ℕ, ◌+◌, ◌*◌, ◌/◌, ◌%◌, ◌≤◌, ◌<◌}
 use mathlib.Core.{Bool.true, Bool.false, Path.◌≡◌, Path.refl, Path.sym, Path.◌∙◌, Logic.⊎_elim, List.List}

@@ -34,8 +34,8 @@ fn short_between(u: ShortTag, v: ShortTag) -> u16
 
 // Questions 11 and 12, then the rule. Of tags of one plan, component and rank 12 asks whether their depths agree; all others pass it.
 fn short_compare(a: ShortTag, b: ShortTag) -> PairAnswer
-    requires a_value { within_limit (short_numbers a) ≡ true }
-    requires b_value { within_limit (short_numbers b) ≡ true }
+    requires a_within_limit { within_limit (short_numbers a) ≡ true }
+    requires b_within_limit { within_limit (short_numbers b) ≡ true }
     ensures { result ≡ compared_by short_between (short_numbers a) (short_numbers b) }
 {
     if a.plan != b.plan {

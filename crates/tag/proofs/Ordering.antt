@@ -1,6 +1,6 @@
 -- Laws of the number by which the code compares two tags: it holds their depths, ranks and lasts, the lesser is that of the tag that comes
 -- first, and the rule is a sum over three comparisons.
--- Vocabulary: sum_rule, between-*, first-*, compared_ordered.
+-- Vocabulary: sum_rule, between_*, first_*, compared_ordered.
 -- Assumes nothing.
 use Prim.Native.Nat.{ℕ, ◌+◌, ◌-◌, ◌/◌, ◌%◌, ◌≤◌, ◌<◌, min, max}
 use mathlib.Core.{Bool.Bool, Bool.true, Bool.false, Bool.cond, Bool.◌&&◌, Bool.◌||◌, Path.◌≡◌, Logic.⊎_elim}

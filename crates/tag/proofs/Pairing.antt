@@ -1,6 +1,6 @@
 -- Laws of the answer from two tags: by their readings, by the numbers of two that are read, in either order, for a tag with
 -- itself, and how large a count can be; and for two positions of a tag file.
--- Vocabulary: in_turn, pair-*, compared-*, agreeing-*, Places, at-*, places-*.
+-- Vocabulary: in_turn, pair_*, compared_*, agreeing_*, Places, at_*, places_*.
 -- Assumes nothing.
 use Prim.Native.Nat.{ℕ, ◌/◌, ◌%◌, ◌≤◌, ◌<◌}
 use mathlib.Core.{Bool.true, Bool.false, Path.◌≡◌, Path.refl, Path.sym, Path.ap, Path.◌∙◌, Logic.⊎_elim, List.List, List.◌++◌}

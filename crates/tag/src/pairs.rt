@@ -58,7 +58,7 @@ fn greater(x: u64, y: u64) -> u64
 // can foresee, so nothing here goes by a branch: of the three comparisons the rule counts how many hold.
 fn between(u: u64, v: u64) -> u16
     requires u_le_v { u ≤ v }
-    requires v_bound { (in_order v).depth ≤ field_limit }
+    requires depth_within_limit { (in_order v).depth ≤ field_limit }
     ensures { result ≡ rule.between (in_order u) (in_order v) }
 {
     let levels = v / 4294967296 - u / 4294967296;
@@ -74,9 +74,9 @@ fn between(u: u64, v: u64) -> u16
 // The answer of two tags of one plan and component that have one rank. In a component a rank belongs to one window (question 12),
 // and a window is 0 handovers from itself.
 fn one_window(a: Tag, b: Tag) -> PairAnswer
-    requires plan_value { a.plan ≡ b.plan }
-    requires component_value { a.component ≡ b.component }
-    requires rank_value { a.rank ≡ b.rank }
+    requires same_plan { a.plan ≡ b.plan }
+    requires same_component { a.component ≡ b.component }
+    requires same_rank { a.rank ≡ b.rank }
     ensures { result ≡ compared_of (numbers a) (numbers b) }
 {
     if !same(a, b) {
@@ -88,8 +88,8 @@ fn one_window(a: Tag, b: Tag) -> PairAnswer
 // Questions 11 and 12, then the rule. Tags of two components pass question 12, and so do those of two ranks, so it is asked of the
 // others alone.
 fn compare(a: Tag, b: Tag) -> PairAnswer
-    requires a_value { within_limit (numbers a) ≡ true }
-    requires b_value { within_limit (numbers b) ≡ true }
+    requires a_within_limit { within_limit (numbers a) ≡ true }
+    requires b_within_limit { within_limit (numbers b) ≡ true }
     ensures { result ≡ compared_of (numbers a) (numbers b) }
 {
     if a.plan != b.plan {

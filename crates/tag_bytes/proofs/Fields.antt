@@ -1,5 +1,5 @@
 -- Laws of a tag's numbers and its bytes: both ways round, and what the limit of the fields says.
--- Vocabulary: Within, within_limit_lem, limit_within, short_tag_of-*, tagOf-*, length-*, short_bytes-*, tag_bytes-*.
+-- Vocabulary: Within, within_limit_lem, limit_within, short_tag_of_*, short_tag_of-*, tag_of-*, length-*, short_bytes-*, tag_bytes-*.
 -- Assumes nothing.
 use Prim.Native.Nat.{ℕ, ◌+◌, ◌*◌, ◌/◌, ◌%◌, ◌≤◌, ◌<◌}
 use mathlib.Core.{Bool.true, Bool.false, Path.◌≡◌, Path.refl, Path.sym, Path.ap, Path.◌∙◌, List.List, List.◌++◌}

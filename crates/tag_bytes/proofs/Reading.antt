@@ -1,5 +1,5 @@
 -- Laws of reading one tag: its three answers, over the width; what a valid reading shows, and questions 9 and 10 by the reading.
--- Vocabulary: tag-*, ReadsAs, valid_reads, questions-*; ShortReadsAs, short-*.
+-- Vocabulary: tag_*, ReadsAs, valid_reads, questions_*; ShortReadsAs, short_*.
 -- Assumes nothing.
 use Prim.Native.Nat.{ℕ}
 use mathlib.Core.List.Memᴰ

@@ -1,6 +1,6 @@
 -- Laws of a tag file: what each answer of a lookup shows, and the part at a position, of any tag file and of one that is written
 -- tag after tag.
--- Vocabulary: lookup-*, found_within, part-*, length-*, tag_file-*, short_tag_file-*.
+-- Vocabulary: lookup_*, found_within, part_*, length-*, tag_file_*, short_tag_file_*, short_tag_file-*.
 -- Assumes nothing.
 use Prim.Native.Nat.{ℕ, zero, suc, ◌+◌, ◌*◌, ◌/◌, ◌%◌, ◌≤◌, ◌<◌}
 use mathlib.Core.Path.{◌≡◌, refl, sym, ap, ◌∙◌}

@@ -1,6 +1,6 @@
 -- Laws of writing one tag: what each answer shows, that a written tag reads back as the same numbers, and that bytes that read
 -- as a tag are written back the same.
--- Vocabulary: put-*, written-*, write-*, short-*, tag_front, refused_after, tag_bytes_read, read-*, short_bytes_read.
+-- Vocabulary: put_*, written_*, write_*, short_*, short-*, tag_front, refused_after, tag_bytes_read, read_*, short_bytes_read.
 -- Assumes nothing.
 use Prim.Native.Nat.{ℕ, ◌≤◌, ◌<◌}
 use mathlib.Core.{Bool.true, Bool.false, Path.◌≡◌, Path.refl, Path.sym, Path.◌∙◌, List.List, List.[], List.◌++◌}

@@ -19,13 +19,13 @@ returns-then-windows-count c = let t = tabled _ _ _ _ _ _ c.last_table.ensures.v
     let t' = tabled _ _ _ _ _ _ c.last_table-2.ensures.value c.in-Filled-last_table.is c.last_table-2.ensures.lasts_after in
     same_lengths t t' c.if-windows-count.true
 
-pub agree-requires-clause-entries_in_bounds : goal.agree-requires-clause-entries_in_bounds
-agree-requires-clause-entries_in_bounds c = let t = tabled _ _ _ _ _ _ c.last_table.ensures.value c.in-Filled.is c.last_table.ensures.lasts_after in
+pub agree-requires-clause-entries_in_first : goal.agree-requires-clause-entries_in_first
+agree-requires-clause-entries_in_first c = let t = tabled _ _ _ _ _ _ c.last_table.ensures.value c.in-Filled.is c.last_table.ensures.lasts_after in
     let t' = tabled _ _ _ _ _ _ c.last_table-2.ensures.value c.in-Filled-last_table.is c.last_table-2.ensures.lasts_after in
     t.held.long
 
-pub agree-requires-clause-entries_in_bounds_2 : goal.agree-requires-clause-entries_in_bounds_2
-agree-requires-clause-entries_in_bounds_2 c = let t = tabled _ _ _ _ _ _ c.last_table.ensures.value c.in-Filled.is c.last_table.ensures.lasts_after in
+pub agree-requires-clause-entries_in_second : goal.agree-requires-clause-entries_in_second
+agree-requires-clause-entries_in_second c = let t = tabled _ _ _ _ _ _ c.last_table.ensures.value c.in-Filled.is c.last_table.ensures.lasts_after in
     let t' = tabled _ _ _ _ _ _ c.last_table-2.ensures.value c.in-Filled-last_table.is c.last_table-2.ensures.lasts_after in
     omega (arith, t'.held.long, c.if-windows-count.false)
 

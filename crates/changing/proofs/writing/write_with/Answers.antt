@@ -11,7 +11,7 @@ copy_part-requires c = let e = place_read _ _ _ _ _ c.read_u16-windows.ensures c
     record {
       from_le_end = room.0;
       end_in_bounds = room.1;
-      from_in_bounds = omega (arith, room, c.write_header.auto);
+      part_fits = omega (arith, room, c.write_header.auto);
     }
 
 pub copy_part-requires-2 : goal.copy_part-requires-2
@@ -21,7 +21,7 @@ copy_part-requires-2 c = let e = place_read _ _ _ _ _ c.read_u16-windows.ensures
     record {
       from_le_end = room.1;
       end_in_bounds = omega arith;
-      from_in_bounds = omega (arith, room, c.write_header.auto, c.copy_part.auto, c.write_window.auto);
+      part_fits = omega (arith, room, c.write_header.auto, c.copy_part.auto, c.write_window.auto);
     }
 
 pub returns : goal.returns

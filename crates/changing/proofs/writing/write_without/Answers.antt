@@ -10,7 +10,7 @@ copy_part-requires c = let room = without_room _ c.requires.accepted _ _ c.requi
     record {
       from_le_end = room.0;
       end_in_bounds = omega (arith, room);
-      from_in_bounds = omega (arith, room, c.write_header.auto);
+      part_fits = omega (arith, room, c.write_header.auto);
     }
 
 pub copy_part-requires-2 : goal.copy_part-requires-2
@@ -18,7 +18,7 @@ copy_part-requires-2 c = let room = without_room _ c.requires.accepted _ _ c.req
     record {
       from_le_end = room.1;
       end_in_bounds = omega arith;
-      from_in_bounds = omega (arith, room, c.write_header.auto, c.copy_part.auto);
+      part_fits = omega (arith, room, c.write_header.auto, c.copy_part.auto);
     }
 
 pub overflow_sub-windows : goal.overflow_sub-windows

@@ -41,9 +41,9 @@ loop-position-preserved c = let h = c.loop-position-test.true in
     let s = c.loop-position.invariant in
     let k = c.requires.holds.at _ h in
     elim c.if-parent-position.branch [
-      | then-parent-position w ↦ rw (w.next-is, w.start-is) (ranked_child (table_forest _) _ _ _ _ h p k s c.requires.entries_in_bounds_2 c.requires.entries_in_bounds_3 w.if-parent-position.true)
+      | then-parent-position w ↦ rw (w.next-is, w.start-is) (ranked_child (table_forest _) _ _ _ _ h p k s c.requires.entries_in_next c.requires.entries_in_ranks w.if-parent-position.true)
       | else-parent-position w ↦ rw (w.next-is, w.start-is)
-          (ranked_root (table_forest _) _ _ _ _ h p k s c.requires.entries_in_bounds_2 c.requires.entries_in_bounds_3 w.if-parent-position.false)
+          (ranked_root (table_forest _) _ _ _ _ h p k s c.requires.entries_in_next c.requires.entries_in_ranks w.if-parent-position.false)
     ]
 
 pub returns : goal.returns

@@ -19,7 +19,7 @@ pub loop-position-preserved : goal.loop-position-preserved
 loop-position-preserved c = (
   fingers_turn c.requires.accepted_windows _ _ _ _ _ c.requires.windows_in_bounds c.loop-position-test.true
       (rw c.offset_at.ensures at c.first_past-finger.ensures.first_past) c.loop-position.invariant.0,
-  c.first_past-finger.ensures.bound_value_2,
+  c.first_past-finger.ensures.bound_after,
 )
 
 pub returns : goal.returns

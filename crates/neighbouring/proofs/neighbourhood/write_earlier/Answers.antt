@@ -24,7 +24,7 @@ offset_bounds-out-found c = omega (
 pub bounds-out-found : goal.bounds-out-found
 bounds-out-found c = let h = c.loop-position-test.true in
     listed_room _ _ _ _ h _ _ (meets_earlier _ c.requires.accepted_plan _ c.requires.at_bound _ _ _ _ _ h c.minimum_handover-minimum.ensures
-    c.end_at.ensures c.window_at-offset.ensures c.reaches.ensures ∙ c.if-reaches.true) c.requires.at_in_bounds c.loop-position.invariant
+    c.end_at.ensures c.window_at-offset.ensures c.reaches.ensures ∙ c.if-reaches.true) c.requires.room c.loop-position.invariant
 
 pub overflow_add-found : goal.overflow_add-found
 overflow_add-found c = let s = c.loop-position in omega (arith, counted_few _ _ s.found s.position s.invariant.so_far)
@@ -34,6 +34,6 @@ loop-position-preserved c = let h = c.loop-position-test.true in
     let read = meets_earlier _ c.requires.accepted_plan _ c.requires.at_bound _ _ _ _ _ h c.minimum_handover-minimum.ensures c.end_at.ensures
     c.window_at-offset.ensures c.reaches.ensures in
     elim c.if-reaches.branch [
-      | then-reaches w ↦ rw (w.out-is, w.found-is) (listed_more _ _ _ _ h _ _ (read ∙ w.if-reaches.true) c.requires.at_in_bounds c.loop-position.invariant)
+      | then-reaches w ↦ rw (w.out-is, w.found-is) (listed_more _ _ _ _ h _ _ (read ∙ w.if-reaches.true) c.requires.room c.loop-position.invariant)
       | else-reaches w ↦ rw (w.out-is, w.found-is) (listed_kept _ _ _ _ h _ _ (read ∙ w.if-reaches.false) c.loop-position.invariant)
     ]

@@ -35,7 +35,7 @@ short_between-requires-clause-depth_le_depth c = comes_first-depth _ _ (sym c.sh
 
 pub short_between-requires-clause-depth_le_field_limit : goal.short_between-requires-clause-depth_le_field_limit
 unfolding short_numbers numbers with_last
-short_between-requires-clause-depth_le_field_limit c = (within_limit_lem _ c.requires.b_value).depth
+short_between-requires-clause-depth_le_field_limit c = (within_limit_lem _ c.requires.b_within_limit).depth
 
 pub returns-then-short_first : goal.returns-then-short_first
 unfolding short_numbers numbers with_last
@@ -49,7 +49,7 @@ short_between-requires-2-clause-depth_le_depth c = comes_first-not_depth _ _ (sy
 
 pub short_between-requires-2-clause-depth_le_field_limit : goal.short_between-requires-2-clause-depth_le_field_limit
 unfolding short_numbers numbers with_last
-short_between-requires-2-clause-depth_le_field_limit c = (within_limit_lem _ c.requires.a_value).depth
+short_between-requires-2-clause-depth_le_field_limit c = (within_limit_lem _ c.requires.a_within_limit).depth
 
 pub returns : goal.returns
 unfolding short_numbers numbers with_last

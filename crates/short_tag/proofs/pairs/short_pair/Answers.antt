@@ -17,11 +17,11 @@ unfolding short_refusal_of
 returns-in_default-second_read c = let told = c.in_default-second_read.is in
     ap Refused (rw told at c.refusal-in_default-second_read.ensures) ∙ sym (short_second_refused _ _ _ _ (sym c.read-first_read.ensures ∙ c.in-Valid.is) (sym c.read-second_read.ensures ∙ told))
 
-pub short_compare-requires-clause-a_value : goal.short_compare-requires-clause-a_value
-short_compare-requires-clause-a_value c = (short_valid_reads _ _ (sym c.read-first_read.ensures ∙ c.in-Valid.is)).within
+pub short_compare-requires-clause-a_within_limit : goal.short_compare-requires-clause-a_within_limit
+short_compare-requires-clause-a_within_limit c = (short_valid_reads _ _ (sym c.read-first_read.ensures ∙ c.in-Valid.is)).within
 
-pub short_compare-requires-clause-b_value : goal.short_compare-requires-clause-b_value
-short_compare-requires-clause-b_value c = (short_valid_reads _ _ (sym c.read-second_read.ensures ∙ c.in-Valid-second_read.is)).within
+pub short_compare-requires-clause-b_within_limit : goal.short_compare-requires-clause-b_within_limit
+short_compare-requires-clause-b_within_limit c = (short_valid_reads _ _ (sym c.read-second_read.ensures ∙ c.in-Valid-second_read.is)).within
 
 pub returns : goal.returns
 returns c = c.short_compare.ensures ∙ sym (short_valid _ _ _ _ (sym c.read-first_read.ensures ∙ c.in-Valid.is) (sym c.read-second_read.ensures ∙ c.in-Valid-second_read.is))

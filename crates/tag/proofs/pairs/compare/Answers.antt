@@ -16,13 +16,13 @@ pub returns-then-a-b-2 : goal.returns-then-a-b-2
 unfolding numbers
 returns-then-a-b-2 c = compared_components between _ _ c.if-a-b.false c.if-a-b-2.true
 
-pub between-requires-clause-v_bound : goal.between-requires-clause-v_bound
+pub between-requires-clause-depth_within_limit : goal.between-requires-clause-depth_within_limit
 unfolding order_of numbers
-between-requires-clause-v_bound c = let a = within_limit_lem _ c.requires.a_value in
-    let b = within_limit_lem _ c.requires.b_value in
+between-requires-clause-depth_within_limit c = let a = within_limit_lem _ c.requires.a_within_limit in
+    let b = within_limit_lem _ c.requires.b_within_limit in
     omega (arith, c.greater.ensures, c.order-x.ensures, c.order-y.ensures, a.depth, a.rank, a.last, b.depth, b.rank, b.last)
 
 pub returns : goal.returns
 unfolding numbers
 returns c = rw (c.between.ensures, c.greater.ensures, c.lesser.ensures, c.order-x.ensures, c.order-y.ensures)
-    (compared_ordered _ _ (within_limit_lem _ c.requires.a_value) (within_limit_lem _ c.requires.b_value) c.if-a-b.false c.if-a-b-2.false c.if-a-b-3.false)
+    (compared_ordered _ _ (within_limit_lem _ c.requires.a_within_limit) (within_limit_lem _ c.requires.b_within_limit) c.if-a-b.false c.if-a-b-2.false c.if-a-b-3.false)

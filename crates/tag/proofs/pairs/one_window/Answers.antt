@@ -8,8 +8,8 @@ use Rattle.tag.proofs.pairs.one_window.Goals as goal
 pub returns-then-not-same : goal.returns-then-not-same
 unfolding numbers
 returns-then-not-same c = rw (c.from.ensures, c.by.ensures)
-    (compared_12 between _ _ c.requires.plan_value c.requires.component_value c.requires.rank_value (sym c.same.ensures ∙ c.if-not-same.true))
+    (compared_12 between _ _ c.requires.same_plan c.requires.same_component c.requires.same_rank (sym c.same.ensures ∙ c.if-not-same.true))
 
 pub returns : goal.returns
 unfolding numbers
-returns c = compared_equal between _ _ c.requires.plan_value c.requires.component_value c.requires.rank_value (sym c.same.ensures ∙ c.if-not-same.false)
+returns c = compared_equal between _ _ c.requires.same_plan c.requires.same_component c.requires.same_rank (sym c.same.ensures ∙ c.if-not-same.false)

@@ -17,11 +17,11 @@ unfolding refusal_of
 returns-in_default-second_read c = let told = c.in_default-second_read.is in
     ap Refused (rw told at c.refusal-in_default-second_read.ensures) ∙ sym (pair_second_refused _ _ _ _ (sym c.read-first_read.ensures ∙ c.in-Valid.is) (sym c.read-second_read.ensures ∙ told))
 
-pub compare-requires-clause-a_value : goal.compare-requires-clause-a_value
-compare-requires-clause-a_value c = (valid_reads _ _ (sym c.read-first_read.ensures ∙ c.in-Valid.is)).within
+pub compare-requires-clause-a_within_limit : goal.compare-requires-clause-a_within_limit
+compare-requires-clause-a_within_limit c = (valid_reads _ _ (sym c.read-first_read.ensures ∙ c.in-Valid.is)).within
 
-pub compare-requires-clause-b_value : goal.compare-requires-clause-b_value
-compare-requires-clause-b_value c = (valid_reads _ _ (sym c.read-second_read.ensures ∙ c.in-Valid-second_read.is)).within
+pub compare-requires-clause-b_within_limit : goal.compare-requires-clause-b_within_limit
+compare-requires-clause-b_within_limit c = (valid_reads _ _ (sym c.read-second_read.ensures ∙ c.in-Valid-second_read.is)).within
 
 pub returns : goal.returns
 returns c = c.compare.ensures ∙ sym (pair_valid _ _ _ _ (sym c.read-first_read.ensures ∙ c.in-Valid.is) (sym c.read-second_read.ensures ∙ c.in-Valid-second_read.is))
