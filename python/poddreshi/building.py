@@ -20,7 +20,7 @@ from .sources import LIBRARIES
 
 HOW_LONG = "some three minutes on two processors the first time, and less after a change"
 STATIC = "libpoddreshi.a"
-PROCESSOR = ("--cpu", "x86-64")  # any of them: what rt takes by itself leaves out the oldest
+PROCESSOR = ("--cpu", "x86-64")  # every x86-64 processor; without it rt leaves out the oldest
 
 
 def ensure(root: Path) -> Path:
@@ -97,6 +97,6 @@ def _join(archives: List[Path], whole: Path) -> None:
 
 
 def _run(folder: Path, words: List[str], otherwise: str, printed=sys.stderr) -> None:
-    """A step of the build, with what it prints on standard error."""
+    """A step of the build, with what it prints on standard error, or where `printed` says."""
     if subprocess.run(words, cwd=folder, stdin=subprocess.DEVNULL, stdout=printed).returncode:
         raise Failure(otherwise)

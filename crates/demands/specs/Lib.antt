@@ -19,7 +19,7 @@
 --             (plan/specs/File, wire/specs/LittleEndian), overlap (overlap/specs/Overlap) and acceptance (plan/specs/Validation,
 --             refusals/specs/Question), and on nothing else: tree, tags, rule and walk need no belief, since this is proved of them
 --   Tree      demand 2. It rests also on interval_graph/specs/{Forest, Tree}, up to rank, on sequences/specs and on tag_bytes/specs/Fields
---   Refusals  demand 1. It rests on the questions of each call: …Questions in plan, tag_bytes, tag, short_tag, minutes, tree, even_tags,
+--   Refusals  demand 1. It rests on the questions of each call: …_questions in plan, tag_bytes, tag, short_tag, minutes, tree, even_tags,
 --             reaching, path, sameness, page, changing, overlap
 --   Calls     what paper 01 says of sameness and of equal tags
 --   Short     paper 02, Q-1: short tags of even plans. What it says of their answers rests on nothing more; the rest of it on
