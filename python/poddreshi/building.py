@@ -18,7 +18,7 @@ from . import files, places
 from .failures import Failure
 from .sources import LIBRARIES
 
-HOW_LONG = "some three minutes on two processors the first time, and less after a change"
+HOW_LONG = "some six minutes on two processors the first time, and less after a change"
 STATIC = "libpoddreshi.a"
 PROCESSOR = ("--cpu", "x86-64")  # every x86-64 processor; without it rt leaves out the oldest
 

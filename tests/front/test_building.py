@@ -76,7 +76,7 @@ class Checkout(Case):
         told = self.build()
         self.assertEqual(self.runs(), PROVED)
         lines = told.splitlines()
-        self.assertIn("proving and building the library: some three minutes", lines[0])
+        self.assertIn("proving and building the library: some six minutes", lines[0])
         self.assertEqual(lines[1:], ["rt: proving"] * len(PROVED) + ["poddreshi: built"])
         self.assertEqual(self.build(), "")
         self.assertEqual(self.runs(), PROVED)
