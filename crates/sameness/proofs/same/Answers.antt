@@ -21,12 +21,10 @@ returns-then-windows-count c = let t = tabled _ _ _ _ _ _ c.last_table.ensures.v
 
 pub agree-requires-clause-entries_in_first : goal.agree-requires-clause-entries_in_first
 agree-requires-clause-entries_in_first c = let t = tabled _ _ _ _ _ _ c.last_table.ensures.value c.in-Filled.is c.last_table.ensures.lasts_after in
-    let t' = tabled _ _ _ _ _ _ c.last_table-2.ensures.value c.in-Filled-last_table.is c.last_table-2.ensures.lasts_after in
     t.held.long
 
 pub agree-requires-clause-entries_in_second : goal.agree-requires-clause-entries_in_second
-agree-requires-clause-entries_in_second c = let t = tabled _ _ _ _ _ _ c.last_table.ensures.value c.in-Filled.is c.last_table.ensures.lasts_after in
-    let t' = tabled _ _ _ _ _ _ c.last_table-2.ensures.value c.in-Filled-last_table.is c.last_table-2.ensures.lasts_after in
+agree-requires-clause-entries_in_second c = let t' = tabled _ _ _ _ _ _ c.last_table-2.ensures.value c.in-Filled-last_table.is c.last_table-2.ensures.lasts_after in
     omega (arith, t'.held.long, c.if-windows-count.false)
 
 pub returns-then-agree : goal.returns-then-agree

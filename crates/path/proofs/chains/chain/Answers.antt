@@ -22,5 +22,4 @@ returns-in-Refused-clause-value c = let asked = c.parent_table.ensures.value in
 
 pub returns-in-Refused-clause-out_after : goal.returns-in-Refused-clause-out_after
 unfolding after_chain
-returns-in-Refused-clause-out_after c = let asked = c.parent_table.ensures.value in
-    refl
+returns-in-Refused-clause-out_after c = refl

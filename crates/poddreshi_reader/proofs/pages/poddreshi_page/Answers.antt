@@ -1,8 +1,9 @@
--- `poddreshi_reader::pages::poddreshi_page` meets its contract: the records before `i` are filled, and all that are to be filled at the end.
-use Rattle.std.proofs.Common.{◌≡◌, ◌%◌, ℕ, List, length, add-one, refl, ap, ◌∙◌, arith}
+-- `poddreshi_reader::pages::poddreshi_page` meets its contract: it is the loop of `page/proofs/Filling`, over records of this type.
+use Rattle.std.proofs.Common.{◌≡◌, ◌%◌, ℕ, List, length, refl, ap, arith}
 use Rattle.tag_bytes.specs.Fields.{tag_length}
-use Rattle.page.specs.Page.{page_answer_of, to_fill}
-use Rattle.page.proofs.Filled.{up_to, up_to_more, to_fill_few, pair_filled, page_filled}
+use Rattle.page.specs.Page.{page_answer_of}
+use Rattle.page.proofs.Filled.{up_to, to_fill_few, pair_filled}
+use Rattle.page.proofs.Filling.{walk, meets}
 use Rattle.packing.specs.Packing.{packed_pair}
 use Rattle.poddreshi_reader.specs.declared.pages.PackedQuery.{PackedQuery}
 use Rattle.poddreshi_reader.specs.Pages.{packed_with, packed_filled, after_packed_page, as_one_packed_pair}
@@ -18,14 +19,13 @@ loop-i-init c = let few = to_fill_few (page_answer_of c.args.tags.now) (length c
     record { so_far = refl; within = omega arith; room = omega (arith, few, c.to_fill-count.ensures) }
 
 pub loop-i-preserved : goal.loop-i-preserved
-loop-i-preserved c = let f = as_one_packed_pair c.args.tags.now in let i = c.loop-i.invariant in record {
-  so_far = rw (add-one, c.answered.ensures, i.so_far) (up_to_more f c.loop-i.i c.args.queries.now _ (omega arith));
+loop-i-preserved c = let i = c.loop-i.invariant in record {
+  so_far = walk (as_one_packed_pair c.args.tags.now) _ _ _ i.so_far _ _ c.answered.ensures (omega arith);
   within = omega arith;
   room = i.room;
 }
 
 pub returns-clause-queries_after : goal.returns-clause-queries_after
 unfolding after_packed_page
-returns-clause-queries_after c = let tags = c.args.tags.now in let l = c.args.queries.now in
-    let all : c.loop-i.i ≡ to_fill (page_answer_of tags) (length l) = omega (arith, c.to_fill-count.ensures) in
-    c.loop-i.invariant.so_far ∙ rw all (page_filled tags (as_one_packed_pair tags) (packed_filled tags) (as_filled tags) l)
+returns-clause-queries_after c = let tags = c.args.tags.now in let i = c.loop-i.invariant in
+    meets (as_one_packed_pair tags) _ _ _ i.so_far tags (packed_filled tags) (as_filled tags) _ c.to_fill-count.ensures i.within (omega arith)

@@ -1,10 +1,9 @@
 -- `reaching::farthest::farthest` meets its contract: the component's root and its last window, by one pass over its levels; then the first
--- window that has its last before the top of that last, or that there is none. (`l` is where the first pass over the levels has answered.)
+-- window that has its last before the top of that last, or that there is none. (`s` is what the first pass over the levels has found.)
 use native.Mathlib.Omega.{arith}
 use Rattle.plan.proofs.Counted.{windows_few}
 use Rattle.reaching.proofs.Reached.{upward, top_window, root_window, rooted_found, rooted_few, top_low, top_high, smaller_few}
 use Rattle.reaching.proofs.Reached.{farthest_within, behind_window, larger_few, farthest_beyond}
-use Rattle.std.proofs.Common.{◌<◌, ℕ, ◌≤◌, length, slice_index_or}
 use Rattle.reaching.proofs.farthest.farthest.Goals as goal
 
 pub top_of-requires-clause-upward : goal.top_of-requires-clause-upward
@@ -19,13 +18,10 @@ bounds-parents-top_of c = omega (arith, top_window c.requires.accepted_windows c
 pub levels_from-all-requires-clause-from_lt_windows : goal.levels_from-all-requires-clause-from_lt_windows
 levels_from-all-requires-clause-from_lt_windows c = root_window c.requires.accepted_windows c.requires.holds _ c.requires.at_lt_windows _ c.top_of.ensures
 
-pub top_of-top-requires-clause-from_in_bounds : goal.top_of-top-requires-clause-from_in_bounds
-top_of-top-requires-clause-from_in_bounds c = let w : (c.levels_from-all.result.last < length c.args.parents.now) × ((v : ℕ) → v ≤ c.levels_from-all.result.last → slice_index_or c.args.parents.now v 0 ≤ v) = let s = rooted_found c.requires.accepted_windows c.requires.holds _ c.requires.at_lt_windows _ c.top_of.ensures _ _ _ c.levels_from-all.ensures in
-    upward c.requires.accepted_windows c.requires.holds _ s.whole.below in w.0
-
-pub top_of-top-requires-clause-upward : goal.top_of-top-requires-clause-upward
-top_of-top-requires-clause-upward c = let w : (c.levels_from-all.result.last < length c.args.parents.now) × ((v : ℕ) → v ≤ c.levels_from-all.result.last → slice_index_or c.args.parents.now v 0 ≤ v) = let s = rooted_found c.requires.accepted_windows c.requires.holds _ c.requires.at_lt_windows _ c.top_of.ensures _ _ _ c.levels_from-all.ensures in
-    upward c.requires.accepted_windows c.requires.holds _ s.whole.below in w.1
+pub top_of-top-requires : goal.top_of-top-requires
+top_of-top-requires c = let s = rooted_found c.requires.accepted_windows c.requires.holds _ c.requires.at_lt_windows _ c.top_of.ensures _ _ _ c.levels_from-all.ensures in
+    let w = upward c.requires.accepted_windows c.requires.holds _ s.whole.below in
+    record { from_in_bounds = w.0; upward = w.1 }
 
 pub first_apart-smaller-requires-clause-from_le_top : goal.first_apart-smaller-requires-clause-from_le_top
 first_apart-smaller-requires-clause-from_le_top c = let s = rooted_found c.requires.accepted_windows c.requires.holds _ c.requires.at_lt_windows _ c.top_of.ensures _ _ _ c.levels_from-all.ensures in

@@ -1,0 +1,28 @@
+-- A loop that replaces the records of a lent slice one by one, each by what a callee makes of it, said once for any type of record:
+--     let count = to_fill(tags, queries.len());
+--     let mut i = 0;
+--     while i < count { queries[i] = answered(tags, queries[i]); i += 1; }
+-- Before each turn the first i records are replaced and the others as they were (`up_to`). All that is known of the callees is what they give
+-- back: `walk` takes a turn, and `meets` says what the loop leaves behind.
+-- Vocabulary: walk, meets.
+-- Assumes nothing.
+use Prim.Native.Nat.{ℕ, ◌+◌, ◌%◌, ◌<◌, ◌≤◌}
+use mathlib.Core.{Path.◌≡◌, Path.◌∙◌, List.List, List.map}
+use native.Mathlib.Numerals.{add-one}
+use native.Mathlib.Omega.{arith}
+use lib.ListN.{length, get_or, set}
+use Rattle.tag_bytes.specs.Fields.{tag_length}
+use Rattle.page.specs.Page.{page_answer_of, if_filled, to_fill}
+use Rattle.page.proofs.Filled.{up_to, up_to_more, page_filled}
+
+module _ {A : Type 0} (f : A → A) (before now : List A) (i : ℕ) (so_far : now ≡ up_to f i before) where
+  -- The record at i is replaced by what is made of the one that stands there.
+  pub walk : (d made : A) → made ≡ f (get_or now i d) → i < length before → set now i made ≡ up_to f (i + 1) before
+  walk d made e less = rw (add-one, e, so_far) (up_to_more f i before d less)
+
+  -- When none is left, the page is as it is to be: each record as g makes it where the page is filled, and else all as they were.
+  pub meets : (tags : List ℕ) (g : A → A) → (length tags % tag_length ≡ 0 → (x : A) → f x ≡ g x) → (count : ℕ) →
+      count ≡ to_fill (page_answer_of tags) (length before) → i ≤ count → count ≤ i → now ≡ if_filled (page_answer_of tags) (map g before) before
+  meets tags g alike count counted within done =
+      let all : i ≡ to_fill (page_answer_of tags) (length before) = omega (arith, counted) in
+      so_far ∙ rw all (page_filled tags f g alike before)
