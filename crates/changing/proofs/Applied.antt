@@ -9,7 +9,7 @@ use Rattle.sequences.proofs.Table.{take_overwritten}
 use Rattle.refusals.specs.declared.Refusal.{Refusal}
 use Rattle.refusals.specs.declared.Asked.TheVariants as Asked
 use Rattle.refusals.specs.Question.{asked_of}
-use Rattle.refusals.proofs.Question.{asked_first}
+use Rattle.refusals.proofs.Questions.{asked_first}
 use Rattle.plan.specs.declared.windows.Window.{Window}
 use Rattle.plan.specs.File.{window_count}
 use Rattle.tag_bytes.specs.Fields.{tag_length}

@@ -13,7 +13,7 @@ use borrow.Author.Tests.{ltb-true, leb-true, eqb-false, lt-ltb, le-ltb, le-leb, 
 use Rattle.sequences.proofs.Tests.{and_left, and_right, and_intro}
 use Rattle.refusals.specs.declared.{Refusal.Refusal, Asked.Asked, Asked.TheVariants.Passed, Asked.TheVariants.Refused}
 use Rattle.refusals.specs.Question.{Question, refusal_by, question, first_no, all_yes, asked_of, position_question}
-use Rattle.refusals.proofs.Question.{asked_refused, asked_passed, passed_all, all_first, all_member, all_append, append_left, append_right}
+use Rattle.refusals.proofs.Questions.{asked_refused, asked_passed, passed_all, all_first, all_member, all_append, append_left, append_right}
 use Rattle.plan.specs.declared.windows.Window.{Window}
 use Rattle.plan.specs.File.{file_length, plan_number, window_count, minimum_handover, end_of}
 use Rattle.plan.specs.Validation.{greatest_count, greatest_end, plan_questions, AcceptedPlan}

@@ -9,7 +9,7 @@ use Rattle.interval_graph.specs.Numbers.{Outcome, apart, no_chain, outcome, shor
 use Rattle.refusals.specs.declared.Refusal.{Refusal}
 use Rattle.refusals.specs.declared.Asked.TheVariants as Asked
 use Rattle.refusals.specs.Question.{Question, first_no, asked_of}
-use Rattle.refusals.proofs.Question.{first_yes, first_no_lem}
+use Rattle.refusals.proofs.Questions.{first_yes, first_no_lem}
 use Rattle.plan.specs.declared.questions.Validation.TheVariants as Validation
 use Rattle.plan.specs.Validation.{validate_answer_of}
 use Rattle.tag_bytes.specs.declared.reader.TagRead.TheVariants as TagRead

@@ -9,7 +9,7 @@ use Rattle.interval_graph.specs.Numbers.{numbers_of, short, short_between, short
 use Rattle.interval_graph.proofs.Plan12.{definitions}
 use Rattle.interval_graph.proofs.Even.{short_outcome_lem}
 use Rattle.refusals.specs.Question.{question, from, room_question, first_no, all_yes}
-use Rattle.refusals.proofs.Question.{first_append, all_first}
+use Rattle.refusals.proofs.Questions.{first_append, all_first}
 use Rattle.plan.specs.File.{plan_number, window_count}
 use Rattle.plan.specs.Validation.{AcceptedPlan}
 use Rattle.plan.specs.Even.{even_questions}

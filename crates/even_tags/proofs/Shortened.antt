@@ -12,7 +12,7 @@ use Rattle.interval_graph.specs.Numbers.{numbers_of, short}
 use Rattle.interval_graph.proofs.Bounds.{numbers_small}
 use Rattle.refusals.specs.declared.Refusal.{Refusal}
 use Rattle.refusals.specs.Question.{room_question}
-use Rattle.refusals.proofs.Question.{first_map}
+use Rattle.refusals.proofs.Questions.{first_map}
 use Rattle.plan.specs.File.{plan_number, window_count}
 use Rattle.plan.specs.Validation.{greatest_count}
 use Rattle.plan.specs.AcceptedWindows.{AcceptedWindows}

@@ -9,7 +9,7 @@ use borrow.Author.Tests.{leb-true, le-leb, lt-leb}
 use Rattle.refusals.specs.declared.Refusal.{Refusal}
 use Rattle.refusals.specs.declared.Asked.{Asked}
 use Rattle.refusals.specs.Question.{refusal_by, question, room_question, first_no, asked_of}
-use Rattle.refusals.proofs.Question.{asked_refused, asked_passed, answer_accepted, first_all, all_member, append_left, append_right}
+use Rattle.refusals.proofs.Questions.{asked_refused, asked_passed, answer_accepted, first_all, all_member, append_left, append_right}
 use Rattle.plan.specs.declared.questions.Validation.{Validation}
 use Rattle.plan.specs.File.{window_count}
 use Rattle.plan.specs.Validation.{plan_questions, validate_answer_of}

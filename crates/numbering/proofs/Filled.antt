@@ -15,7 +15,7 @@ use Rattle.interval_graph.proofs.Parent.{tree}
 use Rattle.interval_graph.proofs.Agreement.{root_test_agrees, depth_agrees, component_agrees, rank_agrees}
 use Rattle.interval_graph.proofs.Last.{last_below}
 use Rattle.refusals.specs.declared.Refusal.{Refusal}
-use Rattle.refusals.proofs.Question.{first_map}
+use Rattle.refusals.proofs.Questions.{first_map}
 use Rattle.plan.specs.File.{plan_number, window_count}
 use Rattle.overlap.specs.Overlap.{overlaps}
 use Rattle.plan.specs.AcceptedWindows.{AcceptedWindows}

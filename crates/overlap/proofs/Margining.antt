@@ -17,7 +17,7 @@ use Rattle.refusals.specs.declared.Refusal.{Refusal}
 use Rattle.refusals.specs.declared.Asked.{Asked}
 use Rattle.refusals.specs.declared.Asked.TheVariants as asked
 use Rattle.refusals.specs.Question.{asked_of, position_questions}
-use Rattle.refusals.proofs.Question.{after_asked, asked_first}
+use Rattle.refusals.proofs.Questions.{after_asked, asked_first}
 use Rattle.plan.specs.declared.questions.Validation.{Validation}
 use Rattle.plan.specs.declared.windows.Window.{Window}
 use Rattle.plan.specs.File.{window_at, end_of}

@@ -12,7 +12,7 @@ use borrow.Author.Tests.{eq-eqb, ne_eqb, eqb-true}
 use Rattle.sequences.proofs.Tests.{equal_or_not}
 use Rattle.refusals.specs.declared.Refusal.{Refusal}
 use Rattle.refusals.specs.Question.{refusal_by, question, first_no, position_questions}
-use Rattle.refusals.proofs.Question.{first_append, asked_first, first_all, all_member}
+use Rattle.refusals.proofs.Questions.{first_append, asked_first, first_all, all_member}
 use Rattle.interval_graph.specs.Numbers.{outcome}
 use Rattle.tag_bytes.specs.Fields.{tag_length, tag_of, numbers}
 use Rattle.tag_bytes.specs.TagFile.{tag_count, tag_part, tag_file_question}

@@ -8,7 +8,7 @@ use Rattle.refusals.specs.declared.Refusal.{Refusal}
 use Rattle.refusals.specs.declared.Asked.{Asked}
 use Rattle.refusals.specs.declared.Asked.TheVariants as asked
 use Rattle.refusals.specs.Question.{asked_of, position_questions, room_question}
-use Rattle.refusals.proofs.Question.{asked_refused, asked_passed}
+use Rattle.refusals.proofs.Questions.{asked_refused, asked_passed}
 use Rattle.plan.specs.declared.questions.Validation.TheVariants as Validation
 use Rattle.plan.specs.Validation.{validate_answer_of}
 use Rattle.plan.specs.AcceptedWindows.{AcceptedWindows}

@@ -4,7 +4,7 @@ use Prim.Native.Nat.{ℕ}
 use mathlib.Core.{Bool.true, Bool.false, Path.◌≡◌, Path.refl, Path.sym, Path.◌∙◌, Logic.⊎_elim, List.List, List.[], List.◌∷◌, List.◌++◌}
 use native.Mathlib.Omega.{arith}
 use Rattle.refusals.specs.{declared.Refusal.Refusal, Question.Question, Question.refusal_from, Question.from, Question.first_no}
-use Rattle.refusals.proofs.Question.{first_yes, first_no_lem, first_append, first_from, first_map, first_cases}
+use Rattle.refusals.proofs.Questions.{first_yes, first_no_lem, first_append, first_from, first_map, first_cases}
 use Rattle.plan.specs.declared.questions.Validation.{Validation, TheVariants.Accepted, TheVariants.Refused}
 use Rattle.plan.specs.File.{plan_number, window_count}
 use Rattle.plan.specs.Validation.{plan_questions, validate_answer_of, AcceptedPlan}

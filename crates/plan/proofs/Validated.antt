@@ -9,7 +9,7 @@ use borrow.Author.Tests.{le-leb, lt-leb, eq-eqb, ne_eqb}
 use Rattle.refusals.specs.declared.{Refusal.Refusal, Asked.Asked}
 use Rattle.refusals.specs.declared.Asked.TheVariants as asked
 use Rattle.refusals.specs.Question.{Question, refusal_by, refusal_about, question, each, first_no, asked_of}
-use Rattle.refusals.proofs.Question.{first_yes, first_no_lem, asked_refused, asked_passed, Asking, asking_start, asking_turn, asking_refused, asking_end}
+use Rattle.refusals.proofs.Questions.{first_yes, first_no_lem, asked_refused, asked_passed, Asking, asking_start, asking_turn, asking_refused, asking_end}
 use Rattle.plan.specs.declared.windows.Window.{Window}
 use Rattle.plan.specs.declared.questions.Validation.{Validation, TheVariants.Accepted, TheVariants.Refused}
 use Rattle.plan.specs.File.{header_length, window_length, file_length, window_place, plan_number, window_count, minimum_handover}

@@ -1,5 +1,5 @@
 -- Laws, in the order in which they rest on one another.
---   Question  a list of questions, however long
+--   Questions a list of questions, however long
 --   Turns     some lists, computed
-pub mod Question
+pub mod Questions
 pub mod Turns

@@ -1,10 +1,8 @@
 -- Paper 01, "Questions at the door": "Asked in this order, leaving out those that don't fit the call. A 'no' gives
 -- the number, the input and the position."
 -- Vocabulary: Question, question, from, about, each, first_no, all_yes, asked_of; position_question, position_questions, room_question.
-use Rattle.std.specs.Prelude.{ℕ, zero, suc, Bool, true, cond, ◌&&◌, List, [], ◌∷◌, ◌++◌, ltb, leb}
-use Rattle.refusals.specs.declared.Refusal.{Refusal}
-use Rattle.refusals.specs.declared.Asked.{Asked}
-use Rattle.refusals.specs.declared.Asked.TheVariants.{Passed, Refused}
+use Rattle.std.specs.Prelude.{ℕ, zero, suc, Bool, true, cond, ◌&&◌, List, [], ◌∷◌, ◌++◌, ltb, leb, Result, Ok, Err}
+use Rattle.refusals.specs.declared.refusal.Refusal.{Refusal}
 
 -- A question put to a call's inputs: whether it is answered "yes", and the refusal that a "no" gives.
 pub record Question : Type 0 where
@@ -24,16 +22,16 @@ abbrev pub refusal_about : ℕ → Refusal → Refusal
 refusal_about position r = record { number = r.number; input = r.input; position = position }
 
 -- A question by its number, of input 0 and position 0.
-unfoldable pub question : ℕ → Bool → Question
+abbrev pub question : ℕ → Bool → Question
 question number passes = record { yes = passes; refusal = refusal_by number }
 
 -- Questions put to an input.
-unfoldable pub from : ℕ → List Question → List Question
+abbrev pub from : ℕ → List Question → List Question
 from input [] = []
 from input (q ∷ later) = record { yes = q.yes; refusal = refusal_from input q.refusal } ∷ from input later
 
 -- Questions about the window at a position.
-unfoldable pub about : ℕ → List Question → List Question
+abbrev pub about : ℕ → List Question → List Question
 about position [] = []
 about position (q ∷ later) = record { yes = q.yes; refusal = refusal_about position q.refusal } ∷ about position later
 
@@ -43,30 +41,29 @@ each questions v zero = []
 each questions v (suc k) = about v (questions v) ++ each questions (suc v) k
 
 -- What a call answers: the refusal of the first question that is answered "no", or what it accepts.
-unfoldable pub first_no : {A : Type 0} → List Question → (Refusal → A) → A → A
+abbrev pub first_no : {A : Type 0} → List Question → (Refusal → A) → A → A
 first_no [] refused accepted = accepted
 first_no (q ∷ later) refused accepted =
-    let rest = first_no later refused accepted in
-    cond q.yes rest (refused q.refusal)
+    cond q.yes (first_no later refused accepted) (refused q.refusal)
 
 -- No question is answered "no".
-unfoldable pub all_yes : List Question → Bool
+abbrev pub all_yes : List Question → Bool
 all_yes [] = true
 all_yes (q ∷ later) = q.yes && all_yes later
 
 -- The first "no", or that there is none.
-unfoldable pub asked_of : List Question → Asked
-asked_of questions = first_no questions Refused Passed
+abbrev pub asked_of : List Question → Result (Unit {0}) Refusal
+asked_of questions = first_no questions Err (Ok tt)
 
 -- "7. Is each position below the number of windows?"
-unfoldable pub position_question : (position windows : ℕ) → Question
+abbrev pub position_question : (position windows : ℕ) → Question
 position_question position windows = question 7 (ltb position windows)
 
 -- "Two named positions are likewise put to their question first and then second; where both are at fault the input is 0."
-unfoldable pub position_questions : (first second windows : ℕ) → List Question
+abbrev pub position_questions : (first second windows : ℕ) → List Question
 position_questions first second windows =
     position_question first windows ∷ from 1 (position_question second windows ∷ [])
 
 -- "8. Does each table hold what is to be written (…)?", of so many entries.
-unfoldable pub room_question : (entries room : ℕ) → Question
+abbrev pub room_question : (entries room : ℕ) → Question
 room_question entries room = question 8 (leb entries room)

@@ -15,7 +15,7 @@ use Rattle.refusals.specs.declared.Refusal.{Refusal}
 use Rattle.refusals.specs.declared.Asked.{Asked}
 use Rattle.refusals.specs.declared.Asked.TheVariants as asked
 use Rattle.refusals.specs.Question.{refusal_by, refusal_from, question, from, first_no, asked_of, position_question, position_questions}
-use Rattle.refusals.proofs.Question.{asked_refused, asked_passed}
+use Rattle.refusals.proofs.Questions.{asked_refused, asked_passed}
 use Rattle.tag_bytes.specs.declared.reader.ShortTag.{ShortTag}
 use Rattle.tag_bytes.specs.declared.reader.ShortRead.TheVariants as short_read
 use Rattle.tag_bytes.specs.Fields.{within_limit, short_length, short_tag_of, short_tag_with, short_numbers, short_bytes}

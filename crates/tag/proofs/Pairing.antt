@@ -16,8 +16,8 @@ use Rattle.refusals.specs.declared.Refusal.{Refusal}
 use Rattle.refusals.specs.declared.Asked.{Asked}
 use Rattle.refusals.specs.declared.Asked.TheVariants as asked
 use Rattle.refusals.specs.Question.{Question, refusal_by, refusal_from, question, from, first_no, asked_of, position_question, position_questions}
-use Rattle.refusals.proofs.Question.{first_append, first_from, answer_accepted, after_asked, asked_first, asked_refused}
-use Rattle.refusals.proofs.Question.{asked_passed, first_all, all_member, all_from, append_left, append_right, passed_within}
+use Rattle.refusals.proofs.Questions.{first_append, first_from, answer_accepted, after_asked, asked_first, asked_refused}
+use Rattle.refusals.proofs.Questions.{asked_passed, first_all, all_member, all_from, append_left, append_right, passed_within}
 use lib.Dec.{eqb}
 use Rattle.tag_bytes.specs.declared.reader.Tag.{Tag}
 use Rattle.tag_bytes.specs.declared.reader.TagRead.TheVariants as read

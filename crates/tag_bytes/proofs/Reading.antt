@@ -10,7 +10,7 @@ use borrow.Author.Tests.{eqb-true, eq-eqb, ne_eqb}
 use Rattle.interval_graph.specs.Numbers.{Numbers}
 use Rattle.refusals.specs.declared.Refusal.{Refusal}
 use Rattle.refusals.specs.Question.{refusal_by, question, first_no}
-use Rattle.refusals.proofs.Question.{first_map, first_all, answer_accepted, all_member}
+use Rattle.refusals.proofs.Questions.{first_map, first_all, answer_accepted, all_member}
 use Rattle.tag_bytes.specs.declared.reader.Tag.{Tag}
 use Rattle.tag_bytes.specs.declared.reader.TagRead.{TagRead}
 use Rattle.tag_bytes.specs.declared.reader.TagRead.TheVariants.{Valid, Refused}

@@ -16,7 +16,7 @@ use Rattle.sequences.proofs.Records.{length_records, record_part}
 use Rattle.interval_graph.specs.Numbers.{Numbers, short}
 use Rattle.refusals.specs.declared.Refusal.{Refusal}
 use Rattle.refusals.specs.Question.{refusal_by, question, position_question, first_no}
-use Rattle.refusals.proofs.Question.{first_all, all_member}
+use Rattle.refusals.proofs.Questions.{first_all, all_member}
 use Rattle.tag_bytes.specs.declared.tag_file.LookupAnswer.TheVariants.{Found, Refused}
 use Rattle.tag_bytes.specs.Fields.{tag_length, tag_bytes, short_length, short_bytes}
 use Rattle.tag_bytes.specs.TagFile.{tag_file, tag_count, part_of, tag_part, tag_file_question, lookup_questions, lookup_answer_of, part_at, lookup_part, short_tag_file}

@@ -15,7 +15,7 @@ use Rattle.refusals.specs.declared.Refusal.{Refusal}
 use Rattle.wire.specs.LittleEndian.{bytes16, placed}
 use Rattle.refusals.specs.Question.{refusal_by, question, room_question, first_no}
 use Rattle.wire.proofs.LittleEndian.{placed_overwritten}
-use Rattle.refusals.proofs.Question.{first_all, all_member}
+use Rattle.refusals.proofs.Questions.{first_all, all_member}
 use Rattle.tag_bytes.specs.declared.reader.Tag.{Tag}
 use Rattle.tag_bytes.specs.declared.reader.TagRead.TheVariants.{Valid}
 use Rattle.tag_bytes.specs.declared.writer.WriteAnswer.{WriteAnswer}

@@ -2,7 +2,7 @@
 use mathlib.Core.Path.{sym, ap, ◌∙◌}
 use native.Mathlib.Omega.{arith}
 use mir.{Syntax.w64, Facts.to_z-of_z}
-use Rattle.refusals.proofs.Question.{passed_within}
+use Rattle.refusals.proofs.Questions.{passed_within}
 use Rattle.plan.proofs.Counted.{windows_few}
 use Rattle.overlap.specs.declared.margins.MarginAnswer.TheVariants.{Margin}
 use Rattle.overlap.proofs.Margining.{margin_past, margin_answered}

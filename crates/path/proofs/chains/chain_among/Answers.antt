@@ -1,7 +1,7 @@
 -- `path::chains::chain_among` meets its contract: question 7 of each position, and then what is left, in either order of naming.
 use mathlib.Core.Path.{refl, sym, ◌∙◌}
 use native.Mathlib.Omega.{arith}
-use Rattle.refusals.proofs.Question.{passed_within}
+use Rattle.refusals.proofs.Questions.{passed_within}
 use Rattle.path.specs.Chain.{after_chain}
 use Rattle.path.proofs.Chaining.{chain_past, chain_asked, chain_asked_turned}
 use Rattle.path.proofs.chains.chain_among.Goals as goal

@@ -9,53 +9,47 @@ use mathlib.Core.List.{List, [], ◌∷◌, ◌++◌, Memᴰ}
 use native.Mathlib.{Omega.arith, Numerals.add-one}
 use borrow.Author.Tests.{ltb-true, lt-ltb, le-ltb}
 use Rattle.sequences.proofs.Tests.{truth, and_left, and_right, and_intro, lt_or_ge}
-use Rattle.refusals.specs.declared.{Refusal.Refusal, Asked.Asked, Asked.TheVariants.Passed, Asked.TheVariants.Refused}
+use Rattle.refusals.specs.declared.refusal.Refusal.{Refusal}
+use Rattle.std.specs.Prelude.{Result, Ok, Err, cond}
 use Rattle.refusals.specs.Question.{Question, refusal_by, refusal_from, refusal_about, question, from, about, each, first_no, all_yes}
 use Rattle.refusals.specs.Question.{asked_of, position_question, position_questions}
 
 module _ {A : Type 0} (later : List Question) (refused : Refusal → A) (accepted : A) where
   -- A question that is answered "yes" is passed over.
   pub first_yes : (q : Question) → q.yes ≡ true → first_no (q ∷ later) refused accepted ≡ first_no later refused accepted
-  unfolding first_no
   first_yes q t = rw t
 
   -- The first that is answered "no" is the answer, whatever comes after it.
   pub first_no_lem : (q : Question) → q.yes ≡ false → first_no (q ∷ later) refused accepted ≡ refused q.refusal
-  unfolding first_no
   first_no_lem q t = rw t
 
 -- Questions after others are what the first ones accept.
 pub first_append : {A : Type 0} (qs later : List Question) (refused : Refusal → A) (accepted : A) →
     first_no (qs ++ later) refused accepted ≡ first_no qs refused (first_no later refused accepted)
-unfolding first_no
 first_append [] later refused accepted = refl
 first_append (q ∷ qs) later refused accepted = rw (first_append qs later refused accepted)
 
 -- Questions put to an input refuse as they would, with that input.
 pub first_from : {A : Type 0} (input : ℕ) (qs : List Question) (refused : Refusal → A) (accepted : A) →
     first_no (from input qs) refused accepted ≡ first_no qs (λ r. refused (refusal_from input r)) accepted
-unfolding first_no from
 first_from input [] refused accepted = refl
 first_from input (q ∷ qs) refused accepted = rw (first_from input qs refused accepted)
 
 -- Questions about a window refuse as they would, with its position.
 pub first_about : {A : Type 0} (position : ℕ) (qs : List Question) (refused : Refusal → A) (accepted : A) →
     first_no (about position qs) refused accepted ≡ first_no qs (λ r. refused (refusal_about position r)) accepted
-unfolding first_no about
 first_about position [] refused accepted = refl
 first_about position (q ∷ qs) refused accepted = rw (first_about position qs refused accepted)
 
 -- What is made of an answer is the answer made of its cases.
 pub first_map : {A B : Type 0} (f : A → B) (qs : List Question) (refused : Refusal → A) (accepted : A) →
     f (first_no qs refused accepted) ≡ first_no qs (λ r. f (refused r)) (f accepted)
-unfolding first_no
 first_map f [] refused accepted = refl
 first_map f (q ∷ qs) refused accepted = ⊎_elim (λ t. rw t (first_map f qs refused accepted)) (λ t. rw t) (truth q.yes)
 
 -- The answer is what is accepted, or some refusal.
 pub first_cases : {A : Type 0} (qs : List Question) (refused : Refusal → A) (accepted : A) →
     (first_no qs refused accepted ≡ accepted) ⊎ ((r : Refusal) × (first_no qs refused accepted ≡ refused r))
-unfolding first_no
 first_cases [] refused accepted = inl refl
 first_cases (q ∷ qs) refused accepted = ⊎_elim (λ t. rw t (first_cases qs refused accepted)) (λ t. inr (q.refusal, rw t)) (truth q.yes)
 
@@ -66,30 +60,42 @@ answer_accepted qs refused accepted a apart e =
     ⊎_elim (λ same. sym same ∙ e) (λ r. absurd (apart r.0 (sym r.1 ∙ e))) (first_cases qs refused accepted)
 
 -- The answer to questions, by what was answered when they were asked.
-abbrev pub after_asked : {A : Type 0} → Asked → (Refusal → A) → A → A
-after_asked Passed refused accepted = accepted
-after_asked (Refused r) refused accepted = refused r
+abbrev pub after_asked : {A : Type 0} → Result (Unit {0}) Refusal → (Refusal → A) → A → A
+after_asked (Ok tt) refused accepted = accepted
+after_asked (Err r) refused accepted = refused r
 
 pub asked_first : {A : Type 0} (qs : List Question) (refused : Refusal → A) (accepted : A) →
     first_no qs refused accepted ≡ after_asked (asked_of qs) refused accepted
-unfolding asked_of
-asked_first qs refused accepted = sym (first_map (λ a. after_asked a refused accepted) qs Refused Passed)
+asked_first qs refused accepted = sym (first_map (λ a. after_asked a refused accepted) qs Err (Ok tt))
 
 -- Questions after others that were asked: their refusal, or what the later ones answer.
-module _ {A : Type 0} (qs later : List Question) (refused : Refusal → A) (accepted : A) (answer : Asked) (asked : answer ≡ asked_of qs) where
-  pub asked_refused : (r : Refusal) → answer ≡ Refused r → refused r ≡ first_no (qs ++ later) refused accepted
+module _ {A : Type 0} (qs later : List Question) (refused : Refusal → A) (accepted : A) (answer : Result (Unit {0}) Refusal) (asked : answer ≡ asked_of qs) where
+  pub asked_refused : (r : Refusal) → answer ≡ Err r → refused r ≡ first_no (qs ++ later) refused accepted
   asked_refused r e =
       sym (first_append qs later refused accepted ∙ (asked_first qs refused (first_no later refused accepted) ∙ rw (← asked, e)))
 
-  pub asked_passed : answer ≡ Passed → first_no later refused accepted ≡ first_no (qs ++ later) refused accepted
+  pub asked_passed : answer ≡ Ok tt → first_no later refused accepted ≡ first_no (qs ++ later) refused accepted
   asked_passed e =
       sym (first_append qs later refused accepted ∙ (asked_first qs refused (first_no later refused accepted) ∙ rw (← asked, e)))
+
+-- What was answered when the first questions were asked says what the answer to them and later ones is; and the same with none after them.
+module _ {A : Type 0} (qs : List Question) (refused : Refusal → A) (accepted : A) where
+  pub after_passed : asked_of qs ≡ Ok tt → (later : List Question) → first_no (qs ++ later) refused accepted ≡ first_no later refused accepted
+  after_passed e later = sym (asked_passed qs later refused accepted (asked_of qs) refl e)
+
+  pub after_refused : (r : Refusal) → asked_of qs ≡ Err r → (later : List Question) → first_no (qs ++ later) refused accepted ≡ refused r
+  after_refused r e later = sym (asked_refused qs later refused accepted (asked_of qs) refl r e)
+
+  pub all_passed : asked_of qs ≡ Ok tt → first_no qs refused accepted ≡ accepted
+  all_passed e = asked_first qs refused accepted ∙ rw e
+
+  pub one_refused : (r : Refusal) → asked_of qs ≡ Err r → first_no qs refused accepted ≡ refused r
+  one_refused r e = asked_first qs refused accepted ∙ rw e
 
 -- No question is answered "no".
 
 -- Then the answer is what is accepted.
 pub all_first : {A : Type 0} (qs : List Question) (refused : Refusal → A) (accepted : A) → all_yes qs ≡ true → first_no qs refused accepted ≡ accepted
-unfolding all_yes first_no
 all_first [] refused accepted t = refl
 all_first (q ∷ qs) refused accepted t =
     first_yes qs refused accepted q (and_left q.yes (all_yes qs) t) ∙ all_first qs refused accepted (and_right q.yes (all_yes qs) t)
@@ -97,20 +103,22 @@ all_first (q ∷ qs) refused accepted t =
 -- Where the answer is what is accepted, and no refusal is that, no question is answered "no".
 pub first_all : {A : Type 0} (qs : List Question) (refused : Refusal → A) (accepted : A) → ((r : Refusal) → refused r ≡ accepted → ⊥) →
     first_no qs refused accepted ≡ accepted → all_yes qs ≡ true
-unfolding all_yes
 first_all [] refused accepted apart e = refl
 first_all (q ∷ qs) refused accepted apart e =
     ⊎_elim (λ t. and_intro q.yes (all_yes qs) t (first_all qs refused accepted apart (sym (first_yes qs refused accepted q t) ∙ e)))
     (λ t. absurd (apart q.refusal (sym (first_no_lem qs refused accepted q t) ∙ e))) (truth q.yes)
 
 -- Of questions that were asked and passed none is.
-pub passed_all : (qs : List Question) → Passed ≡ asked_of qs → all_yes qs ≡ true
-unfolding asked_of
-passed_all qs e = first_all qs Refused Passed (λ r s. let z : ◌≡◌ {A = ℕ} 0 1 = cc in omega arith) (sym e)
+pub passed_all : (qs : List Question) → Ok tt ≡ asked_of qs → all_yes qs ≡ true
+passed_all [] e = refl
+passed_all (q ∷ qs) e =
+    elim q.yes as (λ b. Ok tt ≡ cond b (asked_of qs) (Err q.refusal) → (b && all_yes qs) ≡ true) [
+      | true ↦ passed_all qs
+      | false ↦ λ (k : Ok tt ≡ Err q.refusal). cc
+    ] e
 
 -- Each of them is answered "yes".
 pub all_member : (qs : List Question) → all_yes qs ≡ true → (q : Question) → Memᴰ q qs → q.yes ≡ true
-unfolding all_yes
 all_member [] t q m = absurd (Memᴰ.not-nil m)
 all_member (p ∷ qs) t q m =
     ⊎_elim (λ same. rw same (and_left p.yes (all_yes qs) t)) (λ later. all_member qs (and_right p.yes (all_yes qs) t) q later)
@@ -118,18 +126,15 @@ all_member (p ∷ qs) t q m =
 
 -- Questions put to an input, or about a window, pass as they would.
 pub all_from : (input : ℕ) (qs : List Question) → all_yes (from input qs) ≡ all_yes qs
-unfolding all_yes from
 all_from input [] = refl
 all_from input (q ∷ qs) = rw (all_from input qs)
 
 pub all_about : (position : ℕ) (qs : List Question) → all_yes (about position qs) ≡ all_yes qs
-unfolding all_yes about
 all_about position [] = refl
 all_about position (q ∷ qs) = rw (all_about position qs)
 
 -- Questions one after another pass exactly if both do.
 pub all_append : (qs later : List Question) → all_yes (qs ++ later) ≡ (all_yes qs && all_yes later)
-unfolding all_yes
 all_append [] later = refl
 all_append (q ∷ qs) later = rw (all_append qs later) (⊎_elim (λ t. rw t) (λ t. rw t) (truth q.yes))
 
@@ -142,7 +147,7 @@ append_right qs later t = and_right (all_yes qs) (all_yes later) (sym (all_appen
 -- Questions window after window pass exactly if those about each window do.
 module _ (questions : ℕ → List Question) where
   pub each_all : (v k : ℕ) → ((u : ℕ) → v ≤ u → u < v + k → all_yes (questions u) ≡ true) → all_yes (each questions v k) ≡ true
-  unfolding each all_yes
+  unfolding each
   each_all v zero h = refl
   each_all v (suc k) h =
       all_append (about v (questions v)) (each questions (suc v) k)
@@ -167,7 +172,7 @@ module _ {A : Type 0} (questions : ℕ → List Question) (refused : Refusal →
   asking_start = let e : n - 0 ≡ n = omega arith in record { within = omega arith; left = rw e }
 
   pub asking_end : (v : ℕ) → n ≤ v → Asking questions refused accepted n v → accepted ≡ first_no (each questions 0 n) refused accepted
-  unfolding each first_no
+  unfolding each
   asking_end v done s = let e : n - v ≡ 0 = omega arith in rw e at s.left
 
   module _ (v : ℕ) (inside : v < n) (s : Asking questions refused accepted n v) where
@@ -181,30 +186,29 @@ module _ {A : Type 0} (questions : ℕ → List Question) (refused : Refusal →
         ∙ (first_about v (questions v) refused _ ∙ asked_first (questions v) _ _))
 
     -- One window more that passes.
-    pub asking_turn : Passed ≡ asked_of (questions v) → Asking questions refused accepted n (v + 1)
+    pub asking_turn : (Ok tt) ≡ asked_of (questions v) → Asking questions refused accepted n (v + 1)
     asking_turn e = record { within = omega arith; left = sym (here ∙ rw (← e)) ∙ s.left }
 
     -- A window that is refused is the answer, at its position.
-    pub asking_refused : (r : Refusal) → Refused r ≡ asked_of (questions v) → refused (refusal_about v r) ≡ first_no (each questions 0 n) refused accepted
+    pub asking_refused : (r : Refusal) → Err r ≡ asked_of (questions v) → refused (refusal_about v r) ≡ first_no (each questions 0 n) refused accepted
     asking_refused r e = sym (here ∙ rw (← e)) ∙ s.left
 
 -- Two named positions.
 module _ (first second windows : ℕ) where
-  pub first_beyond : windows ≤ first → Refused (refusal_by 7) ≡ asked_of (position_questions first second windows)
-  unfolding asked_of position_questions position_question question first_no
+  pub first_beyond : windows ≤ first → Err (refusal_by 7) ≡ asked_of (position_questions first second windows)
   first_beyond h = rw (le-ltb first windows h)
 
-  pub second_beyond : first < windows → windows ≤ second → Refused (refusal_from 1 (refusal_by 7)) ≡ asked_of (position_questions first second windows)
-  unfolding asked_of position_questions position_question question from first_no
+  pub second_beyond : first < windows → windows ≤ second → Err (refusal_from 1 (refusal_by 7)) ≡ asked_of (position_questions first second windows)
   second_beyond l h = rw (lt-ltb first windows l, le-ltb second windows h)
 
-  pub both_within : first < windows → second < windows → Passed ≡ asked_of (position_questions first second windows)
-  unfolding asked_of position_questions position_question question from first_no
+  pub both_within : first < windows → second < windows → Ok tt ≡ asked_of (position_questions first second windows)
   both_within l r = rw (lt-ltb first windows l, lt-ltb second windows r)
 
   -- Positions that pass are those of windows.
-  pub passed_within : Passed ≡ asked_of (position_questions first second windows) → (first < windows) × (second < windows)
-  unfolding position_questions position_question question from
+  pub passed_within : (Ok tt) ≡ asked_of (position_questions first second windows) → (first < windows) × (second < windows)
   passed_within e =
       let qs = position_questions first second windows in let all = all_member qs (passed_all qs e) in
       (ltb-true _ _ (all _ (Memᴰ.head refl)), ltb-true _ _ (all _ (Memᴰ.tail (Memᴰ.head refl))))
+
+-- For functions that ask in turn: a question after others, or none after them.
+pub ruleset in_turn = (after_passed, after_refused, all_passed, one_refused)
