@@ -22,7 +22,7 @@ use Rattle.refusals.specs.Question.{refusal_by, question, from, first_no, positi
 use Rattle.plan.specs.File.{plan_number, window_count}
 use Rattle.overlap.specs.Overlap.{overlaps}
 use Rattle.plan.specs.Validation.{AcceptedPlan, validate_answer_of}
-use Rattle.plan.proofs.Accepted.{accepted_validated}
+use Rattle.plan.proofs.Acceptance.{accepted_validated}
 use Rattle.overlap.proofs.InOrder.{interval_order}
 use Rattle.plan.proofs.Calls.{plan_accepted}
 use Rattle.tag.specs.declared.pairs.PairAnswer.{PairAnswer}

@@ -14,7 +14,7 @@ use Rattle.plan.specs.declared.windows.Window.{Window}
 use Rattle.plan.specs.declared.questions.Validation.TheVariants as Validation
 use Rattle.plan.specs.File.{plan_number, window_count, minimum_handover, window_at, end_of, file_of}
 use Rattle.plan.specs.Validation.{greatest_count, greatest_end, minimum_passes, window_questions, AcceptedPlan, validate_answer_of}
-use Rattle.plan.proofs.{Accepted.accepted_sound, Calls.plan_passed, Plan12.plan_meaning}
+use Rattle.plan.proofs.{Acceptance.accepted_sound, Calls.plan_passed, Plan12.plan_meaning}
 use Rattle.plan.proofs.Validated.{ask_5, ask_own_no, windows_answer, passed_start, passed_refused}
 use Rattle.plan.proofs.Written.{length-file_of, plan-file_of, count-file_of, minimum_file_of, window_file_of, windows_pass, accepted-file_of}
 use Rattle.overlap.specs.Overlap.{overlaps, margin_reaches}

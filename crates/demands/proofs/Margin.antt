@@ -6,7 +6,7 @@ use native.Mathlib.Omega.{arith}
 use borrow.Author.Tests.{lt-ltb}
 use Rattle.refusals.specs.Question.{question, from, first_no, position_question, position_questions}
 use Rattle.plan.specs.{File.window_count, File.minimum_handover, File.window_at, Validation.AcceptedPlan, Validation.validate_answer_of}
-use Rattle.plan.proofs.{Accepted.accepted_sound, Accepted.accepted_validated, Calls.plan_accepted}
+use Rattle.plan.proofs.{Acceptance.accepted_sound, Acceptance.accepted_validated, Calls.plan_accepted}
 use Rattle.overlap.specs.Margin.{margin_between, margin_questions, margin_answer_of}
 use Rattle.overlap.specs.declared.margins.MarginAnswer.TheVariants as MarginAnswer
 use Rattle.overlap.proofs.Overlap.{overlaps_minimum, minimum_overlaps}

@@ -9,7 +9,7 @@ use Rattle.interval_graph.proofs.Farthest.{reach_far, far_farthest, farthest_uni
 use Rattle.refusals.specs.Question.{question, first_no, position_question}
 use Rattle.plan.specs.{File.window_count, Validation.AcceptedPlan, Validation.validate_answer_of}
 use Rattle.overlap.specs.Overlap.{overlaps}
-use Rattle.plan.proofs.{Accepted.accepted_validated, Calls.plan_accepted}
+use Rattle.plan.proofs.{Acceptance.accepted_validated, Calls.plan_accepted}
 use Rattle.overlap.proofs.InOrder.{interval_order}
 use Rattle.reaching.specs.Reach.{reach_questions, reach_in, reach_of, reach_answer_of}
 use Rattle.reaching.specs.declared.answers.ReachAnswer.TheVariants as ReachAnswer

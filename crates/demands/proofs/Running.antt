@@ -13,7 +13,7 @@ use Rattle.plan.specs.declared.questions.Validation.{Validation}
 use Rattle.plan.specs.File.{plan_number, window_count}
 use Rattle.plan.specs.Validation.{greatest_count, AcceptedPlan, validate_answer_of}
 use Rattle.plan.specs.AcceptedWindows.{AcceptedWindows}
-use Rattle.plan.proofs.Accepted.{accepted_validated}
+use Rattle.plan.proofs.Acceptance.{accepted_validated}
 use Rattle.plan.proofs.Calls.{plan_refused, plan_accepted, plan_first}
 use Rattle.plan.proofs.Counted.{windows_few, validated_windows}
 use Rattle.tag.specs.declared.pairs.PairAnswer.{PairAnswer}

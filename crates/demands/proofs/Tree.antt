@@ -8,7 +8,7 @@ use Rattle.interval_graph.specs.Numbers.{numbers_of}
 use Rattle.interval_graph.proofs.Bounds.{numbers_small}
 use Rattle.plan.specs.File.{plan_number, window_count}
 use Rattle.plan.specs.Validation.{AcceptedPlan}
-use Rattle.plan.proofs.Accepted.{accepted_sound}
+use Rattle.plan.proofs.Acceptance.{accepted_sound}
 use Rattle.overlap.proofs.InOrder.{interval_order}
 use Rattle.tag_bytes.specs.Fields.{numbers, within_limit}
 use Rattle.tag_bytes.specs.Writing.{after_write}

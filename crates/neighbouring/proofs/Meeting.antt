@@ -11,7 +11,7 @@ use Rattle.interval_graph.proofs.Last.{last_ge, last_below}
 use Rattle.plan.specs.declared.windows.Window.{Window}
 use Rattle.plan.specs.File.{window_count, minimum_handover, window_at, end_of}
 use Rattle.plan.specs.Validation.{greatest_count, AcceptedPlan}
-use Rattle.plan.proofs.Accepted.{Sound, accepted_sound}
+use Rattle.plan.proofs.Acceptance.{Sound, accepted_sound}
 use Rattle.plan.proofs.Counted.{needed_least}
 use Rattle.overlap.specs.Overlap.{overlaps, margin_reaches}
 use Rattle.overlap.proofs.Overlap.{overlaps_in_order}

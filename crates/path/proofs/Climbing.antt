@@ -18,7 +18,7 @@ use lib.ListN.{length, get_or}
 use Rattle.plan.specs.File.{window_count}
 use Rattle.overlap.specs.Overlap.{overlaps}
 use Rattle.plan.specs.Validation.{greatest_count}
-use Rattle.plan.proofs.Accepted.{accepted_sound}
+use Rattle.plan.proofs.Acceptance.{accepted_sound}
 use Rattle.path.specs.Steps.{Parented}
 
 -- What the walk is handed: few windows, and an entry for each, which is its parent.

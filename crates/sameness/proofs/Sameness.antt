@@ -22,7 +22,7 @@ use Rattle.plan.specs.declared.questions.Validation.TheVariants as Validation
 use Rattle.plan.specs.File.{window_count}
 use Rattle.overlap.specs.Overlap.{overlaps}
 use Rattle.plan.specs.Validation.{AcceptedPlan, validate_answer_of}
-use Rattle.plan.proofs.Accepted.{accepted_validated}
+use Rattle.plan.proofs.Acceptance.{accepted_validated}
 use Rattle.overlap.proofs.InOrder.{interval_order}
 use Rattle.plan.proofs.Calls.{plan_first, plan_second}
 use Rattle.overlap.proofs.Counted.{windows_order}

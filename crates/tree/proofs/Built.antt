@@ -13,7 +13,7 @@ use Rattle.refusals.specs.Question.{question, room_question, first_no}
 use Rattle.plan.specs.File.{plan_number, window_count}
 use Rattle.plan.specs.Validation.{greatest_count, AcceptedPlan}
 use Rattle.plan.specs.AcceptedWindows.{AcceptedWindows}
-use Rattle.plan.proofs.Accepted.{accepted_sound}
+use Rattle.plan.proofs.Acceptance.{accepted_sound}
 use Rattle.plan.proofs.Calls.{plan_passed, plan_alike}
 use Rattle.plan.proofs.Counted.{windows_few}
 use Rattle.overlap.proofs.Counted.{windows_order}
