@@ -1,14 +1,12 @@
 // Parents and lasts of a plan's windows, from their minutes.
 #![tactic(auto)]
 
-mod answers;
 mod evens;
 mod lasts;
 mod parents;
 mod tables;
 mod windows;
 
-pub use answers::TableAnswer;
 pub use evens::even_parents;
 pub use lasts::last_table;
 pub use parents::parent_table;
