@@ -1,5 +1,6 @@
 -- Demand 2.
 -- Assumes nothing.
+use Rattle.std.specs.Prelude.{}
 use Prim.Native.Nat.{ℕ, ◌<◌}
 use mathlib.Core.{Bool.true, Path.◌≡◌, List.List}
 use native.Mathlib.Omega.{arith}
@@ -32,7 +33,7 @@ window_within file ok v h =
     let few = (accepted_sound file ok).few in
     limit_within (numbers_at file v) (record { component = omega arith; depth = omega arith; rank = omega arith; last = omega arith })
 
-built : (file : List ℕ) (answer : BuildAnswer) → answer ≡ BuildAnswer.Built (plan_number file) (window_count file) (component_count file) → Built file answer
+built : (file : List ℕ) (answer : BuildAnswer) → answer ≡ built_as (plan_number file) (window_count file) (component_count file) → Built file answer
 unfolding after_build after_tags parent_of component_of depth_of rank_of last_rank_of numbers_at
 built file answer e =
     record {
