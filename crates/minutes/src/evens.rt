@@ -16,9 +16,8 @@ use refusals::{Question, Refusal};
 fn ask_end(window: Window, position: u16, before: u64) -> Result<(), Refusal>
     ensures { result ≡ asked_of (about position (even_question before window ∷ [])) }
 {
-    refusals::ask(Question::EndsInOrder, before <= window.end()).map_err(|refusal| refusal.about(
-        position,
-    ))
+    let asked = refusals::ask(Question::EndsInOrder, before <= window.end());
+    asked.map_err(|refusal| refusal.about(position))
 }
 
 // Question 13 of every window, window after window.
