@@ -1,20 +1,19 @@
 -- Laws of a tag's numbers and its bytes: both ways round, and what the limit of the fields says.
--- Vocabulary: Within, within_limit_lem, limit_within, short_tag_of_*, short_tag_of-*, tag_of-*, length-*, short_bytes-*, tag_bytes-*.
+-- Vocabulary: Within, within_limit_lem, limit_within, length-*, *-cut, short_tag_of-*, tag_of-*, numbers-*, short_numbers-*, short_bytes-*, tag_bytes-*.
 -- Assumes nothing.
 use Prim.Native.Nat.{ℕ, ◌+◌, ◌*◌, ◌/◌, ◌%◌, ◌≤◌, ◌<◌}
-use mathlib.Core.{Bool.true, Bool.false, Path.◌≡◌, Path.refl, Path.sym, Path.ap, Path.◌∙◌, List.List, List.◌++◌}
+use mathlib.Core.{Bool.true, Path.◌≡◌, Path.refl, Path.ap, Path.◌∙◌, List.List, List.◌++◌}
 use native.Mathlib.Omega.{arith}
 use lib.ListN.{length, get_or, take, drop}
 use lib.Seq.{take_all, take-add, drop-drop}
 use lib.Dec.{leb}
-use borrow.Author.Tests.{leb-true, le-leb, lt-leb}
+use borrow.Author.Tests.{leb-true, le-leb}
 use Rattle.sequences.proofs.Tests.{and_left, and_right}
 use Rattle.interval_graph.specs.Numbers.{Numbers, short}
 use Rattle.wire.specs.LittleEndian.{le16, bytes16}
 use Rattle.wire.proofs.LittleEndian.{bytes16_at}
-use Rattle.tag_bytes.specs.declared.reader.ShortTag.{ShortTag}
 use Rattle.tag_bytes.specs.Fields.{tag_length, field_limit, field, tag_of, numbers, tag_with, tag_bytes, within_limit}
-use Rattle.tag_bytes.specs.Fields.{short_length, short_tag_of, short_tag_with, with_last, short_numbers, short_bytes}
+use Rattle.tag_bytes.specs.Fields.{short_length, short_tag_of, short_tag_with, short_numbers, short_bytes}
 
 -- The fields after the plan number are at most the limit.
 pub record Within (n : Numbers) : Type 0 where
@@ -25,7 +24,6 @@ pub record Within (n : Numbers) : Type 0 where
 
 -- The test says so of every field.
 pub within_limit_lem : (n : Numbers) → within_limit n ≡ true → Within n
-unfolding within_limit
 within_limit_lem n t =
     let after = and_right (leb n.component field_limit) _ t in
     let later = and_right (leb n.depth field_limit) _ after in
@@ -36,42 +34,9 @@ within_limit_lem n t =
       last = leb-true _ _ (and_right (leb n.rank field_limit) _ later);
     }
 
--- The test, field after field, as it is made.
-module _ (n : Numbers) where
-  -- A component past the limit decides.
-  pub component_over : field_limit < n.component → false ≡ within_limit n
-  unfolding within_limit
-  component_over over = rw (lt-leb _ _ over)
-
-  -- Else a depth past it does.
-  pub depth_over : n.component ≤ field_limit → field_limit < n.depth → false ≡ within_limit n
-  unfolding within_limit
-  depth_over c over = rw (le-leb _ _ c, lt-leb _ _ over)
-
-  -- Else a rank past it does.
-  pub rank_over : n.component ≤ field_limit → n.depth ≤ field_limit → field_limit < n.rank → false ≡ within_limit n
-  unfolding within_limit
-  rank_over c d over = rw (le-leb _ _ c, le-leb _ _ d, lt-leb _ _ over)
-
-  -- Else the rank of the last decides.
-  pub last_decides : n.component ≤ field_limit → n.depth ≤ field_limit → n.rank ≤ field_limit → leb n.last field_limit ≡ within_limit n
-  unfolding within_limit
-  last_decides c d r = rw (le-leb _ _ c, le-leb _ _ d, le-leb _ _ r)
-
 -- Fields within the limit pass the test.
 pub limit_within : (n : Numbers) → Within n → within_limit n ≡ true
-limit_within n w = sym (last_decides n w.component w.depth w.rank) ∙ le-leb _ _ w.last
-
--- Four numbers that are those of the fields are the short tag,
-pub short_tag_of_fields : (bytes : List ℕ) (plan component depth rank : ℕ) → plan ≡ field bytes 0 → component ≡ field bytes 1 → depth ≡ field bytes 2 →
-    rank ≡ field bytes 3 → record { plan = plan; component = component; depth = depth; rank = rank } ≡ short_tag_of bytes
-unfolding short_tag_of
-short_tag_of_fields bytes plan component depth rank p c d r = rw (p, c, d, r)
-
--- and with a fifth the tag.
-pub tag_of-short : (bytes : List ℕ) (t : ShortTag) (last : ℕ) → t ≡ short_tag_of bytes → last ≡ field bytes 4 → with_last t last ≡ tag_of bytes
-unfolding tag_of short_tag_of with_last
-tag_of-short bytes t last e l = rw (e, l)
+limit_within n w = rw (le-leb _ _ w.component, le-leb _ _ w.depth, le-leb _ _ w.rank, le-leb _ _ w.last)
 
 -- A tag has as many bytes as its figure says.
 pub length-short_bytes : (n : Numbers) → length (short_bytes n) ≡ short_length
@@ -82,26 +47,34 @@ pub length-tag_bytes : (n : Numbers) → length (tag_bytes n) ≡ tag_length
 unfolding tag_bytes short_bytes bytes16
 length-tag_bytes n = refl
 
+-- A short tag's bytes are the first of the tag's, and the tag's are all of them.
+pub short_bytes-cut : (n : Numbers) → short_bytes n ≡ take short_length (tag_bytes n)
+unfolding tag_bytes short_bytes bytes16
+short_bytes-cut n = refl
+
+pub tag_bytes-cut : (n : Numbers) → tag_bytes n ≡ take tag_length (tag_bytes n)
+unfolding tag_bytes short_bytes bytes16
+tag_bytes-cut n = refl
+
 -- The bytes of a tag hold its numbers.
 two_bytes : (x : ℕ) → x % 256 + 256 * (x / 256) ≡ x
 two_bytes x = omega arith
 
 pub short_tag_of-short_bytes : (n : Numbers) → short_tag_of (short_bytes n) ≡ short_tag_with n
-unfolding short_tag_of field le16 short_bytes bytes16 short_tag_with
+unfolding field le16 short_bytes bytes16
 short_tag_of-short_bytes n = rw (two_bytes n.plan, two_bytes n.component, two_bytes n.depth, two_bytes n.rank)
 
 pub tag_of-tag_bytes : (n : Numbers) → tag_of (tag_bytes n) ≡ tag_with n
-unfolding tag_of field le16 tag_bytes short_bytes bytes16 tag_with
+unfolding field le16 tag_bytes short_bytes bytes16
 tag_of-tag_bytes n = rw (two_bytes n.plan, two_bytes n.component, two_bytes n.depth, two_bytes n.rank, two_bytes n.last)
 
 -- The tag with given numbers has those numbers.
 pub numbers-tag_with : (n : Numbers) → numbers (tag_with n) ≡ n
-unfolding numbers tag_with
 numbers-tag_with n = refl
 
 -- The numbers of a short tag are those of the tag, but for the last.
 pub short_numbers-short_tag_with : (n : Numbers) → short_numbers (short_tag_with n) ≡ short n
-unfolding short_numbers numbers with_last short_tag_with short
+unfolding short
 short_numbers-short_tag_with n = refl
 
 -- As many bytes as a tag has, written from the numbers that they hold, are the same bytes.
@@ -123,9 +96,9 @@ module _ (bytes : List ℕ) (small : (i : ℕ) → get_or bytes i 0 < 256) where
   behind long = ap (λ b. take short_length bytes ++ b) (two 8 (omega arith)) ∙ joined 0 8 2
 
   pub short_bytes-short_tag_of : length bytes ≡ short_length → short_bytes (short_numbers (short_tag_of bytes)) ≡ bytes
-  unfolding short_bytes short_numbers numbers with_last short_tag_of
+  unfolding short_bytes
   short_bytes-short_tag_of long = front (omega arith) ∙ take_all short_length bytes (omega arith)
 
   pub tag_bytes-tag_of : length bytes ≡ tag_length → tag_bytes (numbers (tag_of bytes)) ≡ bytes
-  unfolding tag_bytes short_bytes numbers tag_of
+  unfolding tag_bytes short_bytes
   tag_bytes-tag_of long = rw (front (omega arith)) (behind (omega arith) ∙ take_all tag_length bytes (omega arith))

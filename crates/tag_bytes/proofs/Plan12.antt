@@ -6,21 +6,16 @@ use Rattle.sequences.specs.Table.{overwritten}
 use Rattle.interval_graph.specs.Numbers.{numbers_of}
 use Rattle.interval_graph.proofs.Plan12.{definitions, overlaps}
 use Rattle.wire.specs.LittleEndian.{le16, bytes16}
-use Rattle.refusals.specs.Question.{refusal_by, question, position_question, room_question, first_no}
-use Rattle.tag_bytes.specs.declared.tag_file.LookupAnswer.TheVariants as lookup
-use Rattle.tag_bytes.specs.declared.writer.WriteAnswer.TheVariants as write
-use Rattle.tag_bytes.specs.declared.reader.TagRead.TheVariants as read
-use Rattle.tag_bytes.specs.declared.reader.ShortRead.TheVariants as short
-use Rattle.tag_bytes.specs.Fields.{field, tag_of, numbers, tag_with, tag_bytes, within_limit, short_tag_of, with_last, short_numbers, short_bytes}
-use Rattle.tag_bytes.specs.Reading.{read_questions, read_answer_of, short_read_questions, short_read_answer_of}
-use Rattle.tag_bytes.specs.Writing.{write_questions, write_answer_of, short_write_questions, short_write_answer_of, after_short_write}
-use Rattle.tag_bytes.specs.TagFile.{tag_file, tag_count, tag_part, tag_file_question, lookup_questions, lookup_answer_of, part_at, lookup_part, short_tag_file}
+use Rattle.std.specs.Prelude.{Ok, Err}
+use Rattle.refusals.specs.Question.{refusal_by}
+use Rattle.tag_bytes.specs.Fields.{field, tag_bytes, short_bytes}
+use Rattle.tag_bytes.specs.Reading.{read_answer_of, short_read_answer_of}
+use Rattle.tag_bytes.specs.Writing.{write_answer_of, short_write_answer_of, after_short_write}
+use Rattle.tag_bytes.specs.TagFile.{tag_file, lookup_answer_of, looked_up, lookup_part, short_tag_file}
 
 -- What a computation on tags opens.
 unfoldable pub meaning : Unit {0}
-unfolding definitions le16 bytes16 question position_question first_no field tag_of numbers tag_with tag_bytes short_bytes within_limit read_questions
-    read_answer_of tag_file tag_count tag_part tag_file_question flat_map lookup_questions lookup_answer_of part_at lookup_part
-    short_tag_of with_last short_numbers short_read_questions short_read_answer_of short_tag_file
+unfolding definitions le16 bytes16 field tag_bytes short_bytes tag_file flat_map looked_up short_tag_file
 meaning = tt
 
 -- The tag file of the plan.
@@ -37,17 +32,17 @@ plan_12_tags = refl
 
 -- The tag at position 4 reads as the numbers of the listing's line.
 pub plan_12_read : read_answer_of (lookup_part tags 4)
-    ≡ read.Valid (record { plan = 12; component = 0; depth = 2; rank = 2; last = 1 })
+    ≡ Ok (record { plan = 12; component = 0; depth = 2; rank = 2; last = 1 })
 unfolding meaning tags
 plan_12_read = refl
 
 -- One byte is no tag file, before there is no tag at a position; and a table without room comes before a field of 2,048.
-pub length_first : lookup_answer_of (0 ∷ []) 0 ≡ lookup.Refused (refusal_by 9)
+pub length_first : lookup_answer_of (0 ∷ []) 0 ≡ Err (refusal_by 9)
 unfolding meaning
 length_first = refl
 
-pub room_first : write_answer_of (record { plan = 12; component = 2048; depth = 0; rank = 0; last = 0 }) [] ≡ write.Refused (refusal_by 8)
-unfolding meaning write_answer_of write_questions room_question
+pub room_first : write_answer_of (record { plan = 12; component = 2048; depth = 0; rank = 0; last = 0 }) [] ≡ Err (refusal_by 8)
+unfolding meaning
 room_first = refl
 
 -- Its first two short tags; the second reads as four numbers.
@@ -55,23 +50,23 @@ pub plan_12_short : short_tag_file (numbers_of 7 overlaps 12) 2 ≡ (12 ∷ 0 �
 unfolding meaning
 plan_12_short = refl
 
-pub short_read : short_read_answer_of (12 ∷ 0 ∷ 1 ∷ 0 ∷ 2 ∷ 0 ∷ 3 ∷ 4 ∷ []) ≡ short.Valid (record { plan = 12; component = 1; depth = 2; rank = 1027 })
+pub short_read : short_read_answer_of (12 ∷ 0 ∷ 1 ∷ 0 ∷ 2 ∷ 0 ∷ 3 ∷ 4 ∷ []) ≡ Ok (record { plan = 12; component = 1; depth = 2; rank = 1027 })
 unfolding meaning
 short_read = refl
 
 -- Ten bytes are no short tag, before a field of 2,048 is; that alone; and a table of seven bytes comes before it.
 pub short_refusals : short_read_answer_of (12 ∷ 0 ∷ 0 ∷ 8 ∷ 0 ∷ 0 ∷ 0 ∷ 0 ∷ 0 ∷ 0 ∷ []) ∷ short_read_answer_of (12 ∷ 0 ∷ 0 ∷ 0 ∷ 0 ∷ 0 ∷ 0 ∷ 8 ∷ [])
-    ∷ [] ≡ short.Refused (refusal_by 9) ∷ short.Refused (refusal_by 10) ∷ []
+    ∷ [] ≡ Err (refusal_by 9) ∷ Err (refusal_by 10) ∷ []
 unfolding meaning
 short_refusals = refl
 
 pub short_room_first : short_write_answer_of (record { plan = 12; component = 0; depth = 0; rank = 2048 }) (0 ∷ 0 ∷ 0 ∷ 0 ∷ 0 ∷ 0 ∷ 0 ∷ [])
-    ≡ write.Refused (refusal_by 8)
-unfolding meaning short_write_answer_of short_write_questions room_question
+    ≡ Err (refusal_by 8)
+unfolding meaning
 short_room_first = refl
 
 -- Eight bytes are written and the ninth stays.
-pub short_written : after_short_write write.Written (record { plan = 12; component = 1; depth = 2; rank = 1027 })
+pub short_written : after_short_write (Ok tt) (record { plan = 12; component = 1; depth = 2; rank = 1027 })
     (9 ∷ 9 ∷ 9 ∷ 9 ∷ 9 ∷ 9 ∷ 9 ∷ 9 ∷ 9 ∷ []) ≡ 12 ∷ 0 ∷ 1 ∷ 0 ∷ 2 ∷ 0 ∷ 3 ∷ 4 ∷ 9 ∷ []
-unfolding meaning after_short_write overwritten
+unfolding meaning overwritten
 short_written = refl

@@ -1,65 +1,63 @@
 -- Laws of a tag file: what each answer of a lookup shows, and the part at a position, of any tag file and of one that is written
 -- tag after tag.
--- Vocabulary: lookup_*, found_within, part_*, length-*, tag_file_*, short_tag_file_*, short_tag_file-*.
+-- Vocabulary: lookup_*, part_*, length-*, tag_file_*, short_tag_file_*, short_tag_file-*.
 -- Assumes nothing.
-use Prim.Native.Nat.{ℕ, zero, suc, ◌+◌, ◌*◌, ◌/◌, ◌%◌, ◌≤◌, ◌<◌}
+use Prim.Native.Nat.{ℕ, zero, suc, ◌*◌, ◌/◌, ◌%◌, ◌≤◌, ◌<◌}
 use mathlib.Core.Path.{◌≡◌, refl, sym, ap, ◌∙◌}
-use mathlib.Core.List.Memᴰ
 use mathlib.Core.List.{List, [], ◌∷◌, ◌++◌, append-nil, flat_map}
 use native.Mathlib.Omega.{arith}
 use lib.ListN.{length}
-use borrow.Author.Tests.{ltb-true, eq-eqb, ne_eqb, lt-ltb, le-ltb}
+use borrow.Author.Tests.{eq-eqb, ne_eqb, lt-ltb, le-ltb}
+use Rattle.std.specs.Prelude.{Ok, Err}
 use Rattle.sequences.specs.Table.{table}
 use Rattle.sequences.proofs.Table.{length_table, get_or-table, table_cong}
 use Rattle.sequences.proofs.FlatMap.{flat_map-append}
 use Rattle.sequences.proofs.Records.{length_records, record_part}
 use Rattle.interval_graph.specs.Numbers.{Numbers, short}
 use Rattle.refusals.specs.declared.Refusal.{Refusal}
-use Rattle.refusals.specs.Question.{refusal_by, question, position_question, first_no}
-use Rattle.refusals.proofs.Questions.{first_all, all_member}
-use Rattle.tag_bytes.specs.declared.tag_file.LookupAnswer.TheVariants.{Found, Refused}
+use Rattle.refusals.specs.Question.{refusal_by, asked_of}
 use Rattle.tag_bytes.specs.Fields.{tag_length, tag_bytes, short_length, short_bytes}
-use Rattle.tag_bytes.specs.TagFile.{tag_file, tag_count, part_of, tag_part, tag_file_question, lookup_questions, lookup_answer_of, part_at, lookup_part, short_tag_file}
+use Rattle.tag_bytes.specs.TagFile.{tag_file, tag_count, part_of, tag_part, lookup_in, lookup_answer_of, looked_up, lookup_part, short_tag_file}
 use Rattle.tag_bytes.proofs.Fields.{length-tag_bytes, length-short_bytes}
+
+-- A file of tags that have so many bytes, and a position.
+module _ (wide : ℕ) (tags : List ℕ) (at : ℕ) where
+  -- A position before the last tag of a whole file is found.
+  pub found_in : length tags % wide ≡ 0 → at < length tags / wide → Ok tt ≡ asked_of (lookup_in wide tags at)
+  found_in whole within = rw (eq-eqb (length tags % wide) 0 whole, lt-ltb at (length tags / wide) within)
+
+  -- The part that is handed back where the tag is found, and the empty part where the lookup is refused.
+  pub looked_up_found : asked_of (lookup_in wide tags at) ≡ Ok tt → looked_up wide tags at ≡ part_of wide tags at
+  unfolding looked_up
+  looked_up_found e = rw e
+
+  pub looked_up_refused : (r : Refusal) → asked_of (lookup_in wide tags at) ≡ Err r → looked_up wide tags at ≡ []
+  unfolding looked_up
+  looked_up_refused r e = rw e
 
 module _ (tags : List ℕ) (at : ℕ) where
   -- A file whose length is no multiple of a tag's is refused by 9.
-  pub lookup_9 : (length tags % tag_length ≡ 0 → ⊥) → Refused (refusal_by 9) ≡ lookup_answer_of tags at
-  unfolding lookup_answer_of lookup_questions tag_file_question position_question first_no question
+  pub lookup_9 : (length tags % tag_length ≡ 0 → ⊥) → Err (refusal_by 9) ≡ lookup_answer_of tags at
   lookup_9 other = rw (ne_eqb (length tags % tag_length) 0 other)
 
   -- A position past the last tag is refused by 7.
-  pub lookup_7 : length tags % tag_length ≡ 0 → tag_count tags ≤ at → Refused (refusal_by 7) ≡ lookup_answer_of tags at
-  unfolding lookup_answer_of lookup_questions tag_file_question position_question first_no question
+  pub lookup_7 : length tags % tag_length ≡ 0 → tag_count tags ≤ at → Err (refusal_by 7) ≡ lookup_answer_of tags at
   lookup_7 whole past = rw (eq-eqb (length tags % tag_length) 0 whole, le-ltb at (tag_count tags) past)
 
   -- Else the tag is found.
-  pub lookup_found : length tags % tag_length ≡ 0 → at < tag_count tags → Found ≡ lookup_answer_of tags at
-  unfolding lookup_answer_of lookup_questions tag_file_question position_question first_no question
-  lookup_found whole within = rw (eq-eqb (length tags % tag_length) 0 whole, lt-ltb at (tag_count tags) within)
-
-  -- What is found lies whole within the tag file.
-  pub found_within : lookup_answer_of tags at ≡ Found → tag_length * at + tag_length ≤ length tags
-  unfolding lookup_answer_of lookup_questions position_question question tag_count
-  found_within e =
-      let passed = all_member (lookup_questions tags at) (first_all (lookup_questions tags at) Refused Found
-      (λ r s. let z : ◌≡◌ {A = ℕ} 0 1 = cc in omega arith) e) in
-      let within : at < length tags / tag_length = ltb-true _ _ (passed _ (Memᴰ.tail (Memᴰ.head refl))) in
-      omega arith
+  pub lookup_found : length tags % tag_length ≡ 0 → at < tag_count tags → Ok tt ≡ lookup_answer_of tags at
+  lookup_found = found_in tag_length tags at
 
   -- The part that is handed back where the tag is found.
-  pub part_found : lookup_answer_of tags at ≡ Found → lookup_part tags at ≡ tag_part tags at
-  unfolding lookup_part part_at
-  part_found e = rw e
+  pub part_found : lookup_answer_of tags at ≡ Ok tt → lookup_part tags at ≡ tag_part tags at
+  part_found = looked_up_found tag_length tags at
 
   -- The empty part where the lookup is refused.
-  pub part_refused : (r : Refusal) → lookup_answer_of tags at ≡ Refused r → lookup_part tags at ≡ []
-  unfolding lookup_part part_at
-  part_refused r e = rw e
+  pub part_refused : (r : Refusal) → lookup_answer_of tags at ≡ Err r → lookup_part tags at ≡ []
+  part_refused = looked_up_refused tag_length tags at
 
 -- In a file of n tags every position below n is found.
 pub lookup_position : (tags : List ℕ) (n v : ℕ) → length tags ≡ tag_length * n → v < n → lookup_part tags v ≡ tag_part tags v
-unfolding tag_count
 lookup_position tags n v long within = part_found tags v (sym (lookup_found tags v (omega arith) (omega arith)))
 
 module _ (f : ℕ → Numbers) where
@@ -70,7 +68,7 @@ module _ (f : ℕ → Numbers) where
 
   -- The part of a tag file at a position is the tag of that position, whatever stands behind the file.
   pub tag_file_part : (n v : ℕ) (rest : List ℕ) → v < n → tag_part (tag_file f n ++ rest) v ≡ tag_bytes (f v)
-  unfolding tag_file tag_part
+  unfolding tag_file
   tag_file_part n v rest h =
       record_part tag_bytes tag_length length-tag_bytes (table f n) v (f v) rest (omega (arith, length_table f n))
       ∙ ap tag_bytes (get_or-table f n v (f v) h)

@@ -6,8 +6,8 @@
 use Rattle.std.specs.Prelude.{ℕ, ◌-◌, ◌*◌, Bool, ◌&&◌, List, ◌++◌, leb}
 use Rattle.interval_graph.specs.Numbers.{Numbers}
 use Rattle.wire.specs.LittleEndian.{le16, bytes16}
-use Rattle.tag_bytes.specs.declared.reader.Tag.{Tag}
-use Rattle.tag_bytes.specs.declared.reader.ShortTag.{ShortTag}
+use Rattle.tag_bytes.specs.declared.tag.Tag.{Tag}
+use Rattle.tag_bytes.specs.declared.short_tag.ShortTag.{ShortTag}
 
 -- "Five numbers of two bytes"
 abbrev pub field_count : ℕ
@@ -30,16 +30,16 @@ unfoldable pub field : List ℕ → ℕ → ℕ
 field bytes i = le16 bytes (2 * i)
 
 -- The tag that bytes hold.
-unfoldable pub tag_of : List ℕ → Tag
+abbrev pub tag_of : List ℕ → Tag
 tag_of bytes =
     record { plan = field bytes 0; component = field bytes 1; depth = field bytes 2; rank = field bytes 3; last = field bytes 4 }
 
 -- The numbers of a tag, as the rule on two tags takes them.
-unfoldable pub numbers : Tag → Numbers
+abbrev pub numbers : Tag → Numbers
 numbers t = record { plan = t.plan; component = t.component; depth = t.depth; rank = t.rank; last = t.last }
 
 -- The tag with given numbers.
-unfoldable pub tag_with : Numbers → Tag
+abbrev pub tag_with : Numbers → Tag
 tag_with n = record { plan = n.plan; component = n.component; depth = n.depth; rank = n.rank; last = n.last }
 
 -- The bytes of the short tag with given numbers, and of the tag.
@@ -50,20 +50,20 @@ unfoldable pub tag_bytes : Numbers → List ℕ
 tag_bytes n = short_bytes n ++ bytes16 n.last
 
 -- "fields after the first at most 2,047"
-unfoldable pub within_limit : Numbers → Bool
+abbrev pub within_limit : Numbers → Bool
 within_limit n =
     leb n.component field_limit && (leb n.depth field_limit && (leb n.rank field_limit && leb n.last field_limit))
 
 -- The short tag that bytes hold, the one with given numbers, and the tag of a short tag and the rank of a last.
-unfoldable pub short_tag_of : List ℕ → ShortTag
+abbrev pub short_tag_of : List ℕ → ShortTag
 short_tag_of bytes = record { plan = field bytes 0; component = field bytes 1; depth = field bytes 2; rank = field bytes 3 }
 
-unfoldable pub short_tag_with : Numbers → ShortTag
+abbrev pub short_tag_with : Numbers → ShortTag
 short_tag_with n = record { plan = n.plan; component = n.component; depth = n.depth; rank = n.rank }
 
-unfoldable pub with_last : ShortTag → ℕ → Tag
+abbrev pub with_last : ShortTag → ℕ → Tag
 with_last t last = record { plan = t.plan; component = t.component; depth = t.depth; rank = t.rank; last = last }
 
 -- Its numbers, with 0 for the rank of the last that it does not have: no question is answered "no" for that.
-unfoldable pub short_numbers : ShortTag → Numbers
+abbrev pub short_numbers : ShortTag → Numbers
 short_numbers t = numbers (with_last t 0)

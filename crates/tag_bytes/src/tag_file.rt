@@ -1,46 +1,36 @@
-// A tag looked up in a tag file: paper 01's questions 9 and 7.
-ghost use Rattle.std.specs.Prelude.{◌≡◌, ◌+◌, ◌*◌, ◌≤◌, length};
-ghost use Rattle.tag_bytes.specs.Fields.{tag_length};
-ghost use Rattle.tag_bytes.specs.TagFile.{tag_part, lookup_answer_of, lookup_part};
+// A tag looked up in a tag file, of long tags or of short ones: whether the file is whole tags, and whether the position is there.
+ghost use Rattle.std.specs.Prelude.{◌≡◌, ◌/◌, ◌<◌, length};
+ghost use Rattle.refusals.specs.Question.{asked_of};
+ghost use Rattle.tag_bytes.specs.TagFile.{part_of, lookup_in, looked_up};
 
-use crate::reader::Tag;
-use refusals::Refusal;
+use crate::label::Label;
+use refusals::{Question, Refusal};
 
-#[derive(Clone, Copy)]
-pub enum LookupAnswer {
-    Found,
-    Refused(Refusal),
-}
-
-// Why a lookup hands back an empty part, or that it does not.
-pub fn lookup_refusal(tags: &[u8], at: usize) -> LookupAnswer
-    ensures { result ≡ lookup_answer_of tags.now at }
+/// Why a lookup hands back an empty part, or that it does not.
+pub fn lookup_refusal<L: Label>(tags: &[u8], at: usize) -> Result<(), Refusal>
+    ensures { result ≡ asked_of (lookup_in L.LENGTH tags.now at) }
 {
-    if tags.len() % Tag::LENGTH != 0 {
-        return LookupAnswer::Refused(Refusal::by(9));
-    }
+    refusals::ask(Question::HasItsBytes, tags.len() % L::LENGTH == 0)?;
     // Dividing the length, and not multiplying the position, has no overflow at any position.
-    if tags.len() / Tag::LENGTH <= at {
-        return LookupAnswer::Refused(Refusal::by(7));
+    refusals::ask(Question::IsThere, at < tags.len() / L::LENGTH)
+}
+
+// The bytes of the tag at a position that the file has.
+fn part<L: Label>(tags: &[u8], at: usize) -> &[u8]
+    requires { at < length tags.now / L.LENGTH }
+    ensures { result.now ≡ part_of L.LENGTH tags.now at }
+{
+    let start = L::LENGTH * at;
+    &tags[start..start + L::LENGTH]
+}
+
+/// The tag at a position, as a part of the tag file itself.
+#[tactic(auto, unfolding(crate::specs::TagFile::looked_up))]
+pub fn lookup<L: Label>(tags: &[u8], at: usize) -> &[u8]
+    ensures { result.now ≡ looked_up L.LENGTH tags.now at }
+{
+    match lookup_refusal::<L>(tags, at) {
+        Ok(()) => part::<L>(tags, at),
+        Err(_) => &tags[0..0],
     }
-    LookupAnswer::Found
-}
-
-// The ten bytes of the tag at a position that the file has.
-fn part(tags: &[u8], at: usize) -> &[u8]
-    requires { tag_length * at + tag_length ≤ length tags.now }
-    ensures { result.now ≡ tag_part tags.now at }
-{
-    let start = Tag::LENGTH * at;
-    &tags[start..start + Tag::LENGTH]
-}
-
-// The tag at a position, as a part of the tag file itself.
-pub fn lookup(tags: &[u8], at: usize) -> &[u8]
-    ensures { result.now ≡ lookup_part tags.now at }
-{
-    let LookupAnswer::Found = lookup_refusal(tags, at) else {
-        return &tags[0..0];
-    };
-    part(tags, at)
 }
