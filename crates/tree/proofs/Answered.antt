@@ -1,30 +1,30 @@
 -- Build: room for each table and for the tag file, the tags of an accepted plan's tables, and the answers.
 -- Assumes nothing.
 use Prim.Native.Nat.{ℕ, ◌*◌, ◌/◌, ◌≤◌, ◌<◌}
-use mathlib.Core.{Bool.true, Bool.◌&&◌, Path.◌≡◌, Path.◌∙◌, List.List}
+use mathlib.Core.{Bool.true, Bool.◌&&◌, Path.◌≡◌, Path.◌∙◌, Path.sym, Path.subst, List.List}
 use lib.Dec.{leb}
 use native.Mathlib.Omega.{arith}
 use borrow.Author.Tests.{leb-true, le-leb}
 use Rattle.sequences.specs.Table.{Holds}
 use Rattle.sequences.proofs.Tests.{and_left, and_right, iff_equal}
-use Rattle.interval_graph.specs.Numbers.{numbers_of}
+use Rattle.interval_graph.specs.Numbers.{Numbers, numbers_of}
 use Rattle.interval_graph.proofs.Bounds.{numbers_small}
-use Rattle.refusals.specs.Question.{question, room_question, first_no}
 use Rattle.plan.specs.File.{plan_number, window_count}
 use Rattle.plan.specs.Validation.{greatest_count, AcceptedPlan}
 use Rattle.plan.specs.AcceptedWindows.{AcceptedWindows}
 use Rattle.plan.proofs.Acceptance.{accepted_sound}
 use Rattle.plan.proofs.Calls.{plan_passed, plan_alike}
 use Rattle.plan.proofs.Counted.{windows_few}
+use Rattle.overlap.specs.Overlap.{overlaps}
 use Rattle.overlap.proofs.Counted.{windows_order}
-use Rattle.tag_bytes.specs.Fields.{tag_length}
+use Rattle.tag_bytes.specs.Fields.{tag_length, within_limit}
 use Rattle.tag_bytes.specs.TagFile.{tag_file}
 use Rattle.tag_bytes.proofs.Fields.{limit_within}
 use Rattle.tag_bytes.proofs.TagFile.{tag_file_cong}
 use Rattle.minutes.specs.SingleTable.{table_questions}
-use Rattle.numbering.specs.declared.answers.BuildAnswer.TheVariants.{Built, Refused}
+use Rattle.std.specs.Prelude.{Err}
 use Rattle.numbering.specs.Tables.{component_of, depth_of, rank_of, last_rank_of, component_count, numbers_at}
-use Rattle.numbering.specs.Numbering.{least_room, numbers_answer_of}
+use Rattle.numbering.specs.Numbering.{least_room, built_as, numbers_answer_of}
 use Rattle.numbering.proofs.Filled.{Rooms, least_rooms}
 use Rattle.tree.specs.Build.{tables_fit, build_questions, build_answer_of, tags_questions, tags_answer_of}
 use Rattle.tree.specs.Tagging.{numbers_in, Numbered}
@@ -95,8 +95,9 @@ module _ {file : List ℕ} {windows : ℕ} (plan : AcceptedWindows file windows)
         fit = λ v h.
             let small = numbers_small (windows_order plan) v h in
             let few = windows_few plan in
-            rw (numbers_held v h, ← plan.counted)
-            (limit_within _ (record { component = omega arith; depth = omega arith; rank = omega arith; last = omega arith }));
+            let held : within_limit (numbers_at file v) ≡ true =
+            rw (← plan.counted) (limit_within (numbers_of windows (overlaps file) (plan_number file) v) (record { component = omega arith; depth = omega arith; rank = omega arith; last = omega arith })) in
+            subst (λ (n : Numbers). within_limit n ≡ true) (sym (numbers_held v h)) held;
       }
 
   pub tags_filled : tag_file (numbers_in number components depths ranks last_ranks) windows ≡ tag_file (numbers_at file) windows
@@ -104,21 +105,24 @@ module _ {file : List ℕ} {windows : ℕ} (plan : AcceptedWindows file windows)
 
 -- An accepted plan with room for all is built.
 pub build_built : (file : List ℕ) (p c d r l t : ℕ) → AcceptedPlan file → Rooms (window_count file) p c d r l → tag_length * window_count file ≤ t →
-    build_answer_of file p c d r l t ≡ Built (plan_number file) (window_count file) (component_count file)
-unfolding build_answer_of build_questions question first_no
+    build_answer_of file p c d r l t ≡ built_as (plan_number file) (window_count file) (component_count file)
+unfolding build_answer_of build_questions
 build_built file p c d r l t ok rooms fits =
-    plan_passed file _ Refused _ ok ∙ rw (rooms_fit (window_count file) p c d r l t rooms fits)
+    plan_passed file _ Err _ ok ∙ rw (rooms_fit (window_count file) p c d r l t rooms fits)
 
 -- And so is its tag file alone.
 pub tags_made : (file : List ℕ) (t : ℕ) → AcceptedPlan file → tag_length * window_count file ≤ t →
-    tags_answer_of file t ≡ Built (plan_number file) (window_count file) (component_count file)
-unfolding tags_answer_of tags_questions room_question question first_no
-tags_made file t ok fits = plan_passed file _ Refused _ ok ∙ rw (le-leb (tag_length * window_count file) t fits)
+    tags_answer_of file t ≡ built_as (plan_number file) (window_count file) (component_count file)
+unfolding tags_answer_of tags_questions
+tags_made file t ok fits = plan_passed file _ Err _ ok ∙ rw (le-leb (tag_length * window_count file) t fits)
 
 -- The five tables are answered as build is, where they are told the tag file's room.
 pub numbers_answered : (file : List ℕ) (p c d r l t : ℕ) → numbers_answer_of file (least_room (t / tag_length) p c d r l) ≡ build_answer_of file p c d r l t
-unfolding numbers_answer_of table_questions room_question build_answer_of build_questions
+unfolding numbers_answer_of table_questions build_answer_of build_questions
 numbers_answered file p c d r l t = rw (least_fit (window_count file) p c d r l t)
+
+pub build_answered : (file : List ℕ) (p c d r l t : ℕ) → build_answer_of file p c d r l t ≡ numbers_answer_of file (least_room (t / tag_length) p c d r l)
+build_answered file p c d r l t = sym (numbers_answered file p c d r l t)
 
 -- Tables as long as any plan's leave the tag file's room to be asked for.
 tables_hold : (windows t : ℕ) → windows ≤ greatest_count →
@@ -127,5 +131,5 @@ unfolding tables_fit
 tables_hold windows t few = rw (le-leb windows greatest_count few)
 
 pub tags_built : (file : List ℕ) (t : ℕ) → build_answer_of file greatest_count greatest_count greatest_count greatest_count greatest_count t ≡ tags_answer_of file t
-unfolding build_answer_of build_questions tags_answer_of tags_questions room_question
-tags_built file t = plan_alike file _ _ Refused _ (λ ok. rw (tables_hold (window_count file) t (accepted_sound file ok).few))
+unfolding build_answer_of build_questions tags_answer_of tags_questions
+tags_built file t = plan_alike file _ _ Err _ (λ ok. rw (tables_hold (window_count file) t (accepted_sound file ok).few))
