@@ -13,7 +13,7 @@ use Rattle.interval_graph.proofs.Sameness.{SameNumbers}
 use Rattle.wire.specs.LittleEndian.{bytes16}
 use Rattle.plan.specs.File.{window_count}
 use Rattle.overlap.specs.Overlap.{overlaps}
-use Rattle.tag_bytes.specs.declared.reader.Tag.{Tag}
+use Rattle.tag_bytes.specs.declared.tag.Tag.{Tag}
 use Rattle.tag_bytes.specs.Fields.{tag_of, tag_with, tag_bytes, short_bytes}
 use Rattle.tag_bytes.proofs.Fields.{tag_of-tag_bytes}
 use Rattle.tag_bytes.proofs.TagFile.{tag_file_lookup}
@@ -85,10 +85,10 @@ test_same first second = (
   λ s. and_intro _ _ (eq-eqb _ _ s.count) ((pairs_iff_overlaps _ _ _).1 s.pairs),
 )
 
-different_not_same : Ok false ≡ Ok true → ⊥
+different_not_same : ◌≡◌ {A = Result Bool Refusal} (Ok false) (Ok true) → ⊥
 different_not_same e = let z : ◌≡◌ {A = ℕ} 0 1 = cc in omega arith
 
-module _ (first second : List ℕ) (answer : same_answer_of first second ≡ cond (same_overlap first second) Ok true Ok false) where
+module _ (first second : List ℕ) (answer : same_answer_of first second ≡ Ok (same_overlap first second)) where
   same_answered : (same_answer_of first second ≡ Ok true) ↔ SameOverlap first second
   same_answered = (
     λ e. ⊎_elim (λ t. (test_same first second).0 t) (λ t. absurd (different_not_same (sym (rw t at answer) ∙ e))) (truth (same_overlap first second)),

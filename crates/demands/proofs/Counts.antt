@@ -30,7 +30,6 @@ use Rattle.tag.specs.declared.pairs.PairAnswer.{PairAnswer}
 use Rattle.tag.specs.Pairing.{agreeing, compare_questions, answer_of, compared_by, pair_answer_of}
 use Rattle.tag.proofs.Pairing.{pair_tag_file}
 use Rattle.numbering.specs.Tables.{numbers_at}
-use Rattle.path.specs.declared.answers.ChainAnswer.{ChainAnswer}
 use Rattle.path.specs.Chain.{chain_between, chain_questions, chain_found, chain_answer_of, after_chain}
 use Rattle.demands.specs.EndToEnd.{Answered, tag_at, Demand3}
 use Rattle.demands.proofs.Refusals.{outcome_answered}
@@ -48,7 +47,7 @@ answer_none (apart j) = (λ e. let z : ◌≡◌ {A = ℕ} 0 1 = cc in absurd (o
 answer_none no_chain = (λ e. refl, λ e. refl)
 
 -- What is found of a chain: how many entries it has, or that it is empty.
-found_some : (l : List ℕ) → (l ≡ [] → ⊥) → chain_found l ≡ ChainAnswer.Chain (length l)
+found_some : (l : List ℕ) → (l ≡ [] → ⊥) → chain_found l ≡ Ok (Some (length l))
 unfolding chain_found
 found_some [] some = absurd (some refl)
 found_some (x ∷ l) some = refl
@@ -113,7 +112,7 @@ module _ (file : List ℕ) (ok : AcceptedPlan file) (u v : ℕ) (hu : u < window
   empty_apart = chain_empty_iff_apart order u v hu hv
 
   -- What is answered, and the table afterwards.
-  module _ (before out : List ℕ) (pair : PairAnswer) (chain : ChainAnswer) (paired : pair ≡ pair_answer_of (tag_at file u) (tag_at file v))
+  module _ (before out : List ℕ) (pair : PairAnswer) (chain : Result (Option ℕ) Refusal) (paired : pair ≡ pair_answer_of (tag_at file u) (tag_at file v))
       (chained : chain ≡ chain_answer_of file u v (length before)) (after : out ≡ after_chain chain (chain_between file u v) before) where
     counting : (k : ℕ) → (pair ≡ PairAnswer.Handovers k) ↔ LeastHandovers (window_count file) (overlaps file) u v k
     counting k =
@@ -168,7 +167,7 @@ module _ (file : List ℕ) (ok : AcceptedPlan file) (u v : ℕ) (hu : u < window
     given k e room =
         ⊎_elim
         (λ t. roomy (leb-true _ _ t) ∙ (found_some (chain_between file u v) (λ none. absurd (omega (arith, chain_long k e, ap (length {A = ℕ}) none)))
-        ∙ ap ChainAnswer.Chain (chain_long k e)))
+        ∙ ap (λ n. Ok (Some n)) (chain_long k e)))
         (λ t. let left : out ≡ before = rw (chained ∙ chain_short (length before) t) at after in
         absurd (omega (arith, leb-false (length (chain_between file u v)) (length before) t, chain_long k e, ap (length {A = ℕ}) left)))
         (truth (leb (length (chain_between file u v)) (length before)))

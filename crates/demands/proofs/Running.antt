@@ -10,7 +10,7 @@ use Rattle.sequences.specs.Table.{overwritten}
 use Rattle.sequences.proofs.Table.{take_overwritten}
 use Rattle.refusals.specs.declared.refusal.Refusal.{Refusal}
 use Rattle.refusals.specs.Question.{question, from, first_no, position_question, position_questions, room_question}
-use Rattle.plan.specs.declared.questions.Validation.{Validation}
+use Rattle.plan.specs.declared.questions.Accepted.{Accepted}
 use Rattle.plan.specs.File.{plan_number, window_count}
 use Rattle.plan.specs.Validation.{greatest_count, AcceptedPlan, validate_answer_of}
 use Rattle.plan.specs.AcceptedWindows.{AcceptedWindows}
@@ -23,16 +23,15 @@ use Rattle.tag_bytes.specs.TagFile.{tag_file}
 use Rattle.tag.specs.Pairing.{pair_answer_of, pair_at_answer_of}
 use Rattle.tag_bytes.proofs.TagFile.{length-tag_file}
 use Rattle.tag.proofs.Pairing.{pair_at_tag_file}
-use Rattle.numbering.specs.declared.answers.BuildAnswer.{BuildAnswer}
-use Rattle.numbering.specs.declared.answers.BuildAnswer.TheVariants.{Built, Refused}
+use Rattle.numbering.specs.declared.filling.Built as numbering
 use Rattle.numbering.specs.Tables.{component_count, numbers_at}
 use Rattle.tree.specs.Build.{tags_questions, tags_answer_of, after_tags}
 use Rattle.demands.specs.EndToEnd.{tag_at, pair_from_plan}
 
 -- A table that holds any plan's tag file is answered as the validation is: its refusal, or the plan's own numbers.
-abbrev validated : List ℕ → Result Accepted Refusal → BuildAnswer
-validated file (accepted_as plan windows) = Built (plan_number file) windows (component_count file)
-validated file (Err refusal) = Refused refusal
+abbrev validated : List ℕ → Result Accepted Refusal → Result numbering.Built Refusal
+validated file (Ok said) = built_as (plan_number file) said.windows (component_count file)
+validated file (Err refusal) = Err refusal
 
 module _ (file : List ℕ) (room : ℕ) (enough : tag_length * greatest_count ≤ room) where
   by_validation : (v : Result Accepted Refusal) → v ≡ validate_answer_of file → tags_answer_of file room ≡ validated file v
@@ -53,7 +52,7 @@ module _ (file : List ℕ) (room : ℕ) (enough : tag_length * greatest_count �
       rw same (validated_windows file (accepted_as number windows') e number windows' refl)
   built_by (Err refusal) plan windows count e f = let z : ◌≡◌ {A = ℕ} 0 1 = cc in absurd (omega arith)
 
-  module _ (first second : ℕ) (answer : BuildAnswer) (answered : answer ≡ tags_answer_of file room) where
+  module _ (first second : ℕ) (answer : Result numbering.Built Refusal) (answered : answer ≡ tags_answer_of file room) where
     pub running_refused : (refusal : Refusal) → answer ≡ Refused refusal → PairAnswer.Refused refusal ≡ pair_from_plan file first second
     unfolding pair_from_plan
     running_refused refusal e =

@@ -12,10 +12,10 @@ use Rattle.overlap.specs.Overlap.{overlaps}
 use Rattle.tag_bytes.specs.TagFile.{tag_file, lookup_part}
 use Rattle.tag.specs.{declared.pairs.PairAnswer.PairAnswer, Pairing.pair_answer_of}
 use Rattle.numbering.specs.Tables.{numbers_at}
-use Rattle.path.specs.{declared.answers.ChainAnswer.ChainAnswer, Chain.chain_between, Chain.chain_answer_of, Chain.after_chain}
+use Rattle.path.specs.{Chain.chain_between, Chain.chain_answer_of, Chain.after_chain}
 
 -- What is answered of the windows u and v of a file: the answer from their tags, the answer of chain, and its table afterwards.
-pub record Answered (file : List ℕ) (u v : ℕ) (pair : PairAnswer) (chain : ChainAnswer) (out : List ℕ) : Type 0 where
+pub record Answered (file : List ℕ) (u v : ℕ) (pair : PairAnswer) (chain : Result (Option ℕ) Refusal) (out : List ℕ) : Type 0 where
   -- A number of handovers is answered exactly if it is the least: some chain has it, none has fewer.
   pub counted : (k : ℕ) → (pair ≡ PairAnswer.Handovers k) ↔ LeastHandovers (window_count file) (overlaps file) u v k
   -- Where a chain joins them, some number is answered.

@@ -6,7 +6,7 @@ use Rattle.std.specs.Prelude.{ℕ, ◌+◌, ◌≤◌, ◌<◌, pos, neg_ℤ, �
 use mathlib.Core.{Bool.true, Bool.false, Path.◌≡◌, Logic.◌↔◌, Logic.◌≢◌, List.List, List.[], List.◌∷◌}
 use Rattle.refusals.specs.Question.{refusal_by}
 use Rattle.plan.specs.declared.windows.Window.{Window}
-use Rattle.plan.specs.declared.questions.Validation.{Validation}
+use Rattle.plan.specs.declared.questions.Accepted.{Accepted}
 use Rattle.plan.specs.File.{plan_number, window_count, minimum_handover, window_at, end_of, file_of}
 use Rattle.plan.specs.Validation.{minimum_passes, AcceptedPlan, validate_answer_of}
 use Rattle.overlap.specs.Overlap.{overlaps}

@@ -10,7 +10,7 @@ use Rattle.refusals.specs.{declared.refusal.Refusal.Refusal, Question.Question, 
 use Rattle.plan.specs.Validation.{plan_questions, validate_answer_of}
 use Rattle.tag_bytes.specs.{Reading.read_questions, Reading.read_answer_of, Writing.write_questions, Writing.write_answer_of, Writing.after_write}
 use Rattle.tag_bytes.specs.TagFile.{tag_file_question, lookup_questions, lookup_answer_of, lookup_part}
-use Rattle.tag_bytes.specs.{declared.reader.ShortTag.ShortTag, Reading.short_read_questions, Reading.short_read_answer_of}
+use Rattle.tag_bytes.specs.{declared.short_tag.ShortTag.ShortTag, Reading.short_read_questions, Reading.short_read_answer_of}
 use Rattle.tag_bytes.specs.{Writing.short_write_questions, Writing.short_write_answer_of, Writing.after_short_write}
 use Rattle.tag.specs.Pairing.{pair_questions, pair_answer_of, pair_at_questions, pair_at_answer_of}
 use Rattle.short_tag.specs.ShortPairing.{short_pair_questions, short_pair_answer_of, short_pair_at_questions, short_pair_at_answer_of}

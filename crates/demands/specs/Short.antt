@@ -8,7 +8,7 @@ use Rattle.interval_graph.specs.{Chain.Joined, Chain.LeastHandovers, Numbers.num
 use Rattle.plan.specs.File.{plan_number, window_count, window_at, end_of}
 use Rattle.overlap.specs.Overlap.{overlaps}
 use Rattle.plan.specs.{Validation.AcceptedPlan, Even.EvenPlan}
-use Rattle.tag_bytes.specs.{declared.reader.ShortTag.ShortTag, Fields.short_length, Fields.short_tag_with}
+use Rattle.tag_bytes.specs.{declared.short_tag.ShortTag.ShortTag, Fields.short_length, Fields.short_tag_with}
 use Rattle.tag_bytes.specs.{Reading.short_read_answer_of, Writing.short_write_answer_of, Writing.after_short_write}
 use Rattle.tag_bytes.specs.TagFile.{part_of, short_tag_file}
 use Rattle.tag.specs.Pairing.{pair_answer_of}

@@ -8,21 +8,22 @@ use Rattle.sequences.specs.Table.{table, overwritten}
 use Rattle.interval_graph.specs.{Tree.parent, Tree.component, Tree.depth, Tree.rank, Tree.last_rank, Numbers.Numbers, Numbers.numbers_of}
 use Rattle.plan.specs.{File.plan_number, File.window_count, Validation.AcceptedPlan}
 use Rattle.overlap.specs.Overlap.{overlaps}
-use Rattle.tag_bytes.specs.{declared.reader.Tag.Tag, Fields.tag_length, Fields.numbers, Fields.tag_with, TagFile.tag_file}
+use Rattle.tag_bytes.specs.{declared.tag.Tag.Tag, Fields.tag_length, Fields.numbers, Fields.tag_with, TagFile.tag_file}
 use Rattle.tag_bytes.specs.{Reading.read_answer_of, Writing.write_answer_of, Writing.after_write}
 use Rattle.minutes.specs.Tables.{parent_of}
+use Rattle.numbering.specs.declared.filling.Built as numbering
 use Rattle.numbering.specs.Tables.{component_of, depth_of, rank_of, last_rank_of, component_count, numbers_at}
-use Rattle.numbering.specs.{declared.answers.BuildAnswer.BuildAnswer, Numbering.after_build}
+use Rattle.numbering.specs.{Numbering.after_build}
 use Rattle.tree.specs.Build.{build_answer_of, after_tags}
 use Rattle.demands.specs.EndToEnd.{tag_at}
 
 -- What build leaves in a table, whatever was in it: the first n entries are those of a function, and what lies past them stays.
-abbrev pub Leaves : List ℕ → BuildAnswer → (written expected : ℕ → ℕ) → Type 0
+abbrev pub Leaves : List ℕ → Result numbering.Built Refusal → (written expected : ℕ → ℕ) → Type 0
 Leaves file answer written expected =
     (before : List ℕ) → after_build answer written before ≡ overwritten before (table expected (window_count file))
 
 -- The answer of build, the five tables and the tag file.
-pub record Built (file : List ℕ) (answer : BuildAnswer) : Type 0 where
+pub record Built (file : List ℕ) (answer : Result numbering.Built Refusal) : Type 0 where
   pub answered : answer ≡ built_as (plan_number file) (window_count file) (component_count file)
   pub parents : Leaves file answer (parent_of file) (parent (overlaps file))
   pub components : Leaves file answer (component_of file) (component (overlaps file))

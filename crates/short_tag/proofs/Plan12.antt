@@ -8,11 +8,11 @@ use Rattle.tag_bytes.specs.Fields.{short_bytes}
 use Rattle.tag.specs.declared.pairs.PairAnswer.TheVariants.{Handovers, NoChain, Refused}
 use Rattle.tag.proofs.Plan12 as long
 use Rattle.tag.proofs.Plan12.{tag}
-use Rattle.short_tag.specs.ShortPairing.{short_pair_questions, short_pair_answer_of, short_place_questions, short_pair_at_questions, short_pair_at_answer_of}
+use Rattle.short_tag.specs.ShortPairing.{short_pair_answer_of, short_pair_at_answer_of}
 
 -- What a computation on two short tags opens.
 unfoldable meaning : Unit {0}
-unfolding long.meaning short_between short_pair_questions short_pair_answer_of short_place_questions short_pair_at_questions short_pair_at_answer_of
+unfolding long.meaning short_between
 meaning = tt
 
 -- The short tag with these fields.

@@ -4,5 +4,4 @@
 mod pairs;
 
 pub use pairs::{short_pair, short_pair_at};
-pub use tag::PairAnswer;
-pub use tag_bytes::{ShortRead, ShortTag, short_write};
+pub use tag::{Label, PairAnswer, ShortTag, lookup, lookup_refusal};

@@ -1,20 +1,20 @@
 -- Laws of the number by which the code compares two tags: it holds their depths, ranks and lasts, the lesser is that of the tag that comes
 -- first, and the rule is a sum over three comparisons.
--- Vocabulary: sum_rule, between_*, first_*, compared_ordered.
+-- Vocabulary: sum_rule, between_*, *_back, lesser_first, greater_second, counted, level_*, bare_*, in_either_order, short_in_either_order, compared_ordered.
 -- Assumes nothing.
 use Prim.Native.Nat.{ℕ, ◌+◌, ◌-◌, ◌/◌, ◌%◌, ◌≤◌, ◌<◌, min, max}
-use mathlib.Core.{Bool.Bool, Bool.true, Bool.false, Bool.cond, Bool.◌&&◌, Bool.◌||◌, Path.◌≡◌, Logic.⊎_elim}
+use mathlib.Core.{Bool.Bool, Bool.true, Bool.false, Bool.cond, Bool.◌&&◌, Bool.◌||◌, Path.◌≡◌, Path.refl, Logic.◌⊎◌, Logic.⊎_elim}
 use native.Mathlib.Omega.{arith}
+use Rattle.std.proofs.lemmas.Grind.{common_steps}
 use lib.Dec.{ltb, leb}
-use borrow.Author.Tests.{lt-ltb, le-ltb, eq-eqb, ne_eqb}
 use mir.Val.{bool_byte}
-use Rattle.sequences.proofs.Tests.{byte_most, equal_or_not, lt_or_ge}
-use Rattle.interval_graph.specs.Numbers.{Numbers, comes_first, between}
+use Rattle.sequences.proofs.Tests.{byte_most, lt_or_ge}
+use Rattle.interval_graph.specs.Numbers.{Numbers, comes_first, between, short_between}
 use Rattle.tag_bytes.proofs.Fields.{Within}
 use Rattle.tag.specs.declared.pairs.PairAnswer.TheVariants.{Handovers}
-use Rattle.tag.specs.Order.{order_of, in_order}
 use Rattle.tag.specs.Pairing.{compared_of}
-use Rattle.tag.proofs.Pairing.{compared_first, compared_second}
+use Rattle.tag.proofs.Pairing.{compared_ranks}
+use Rattle.tag.specs.Order.{order_of, in_order}
 
 sum_rule : (rising reached around : Bool) (D : ℕ) →
     cond rising (cond (reached || around) (D + 1) (D + 2)) (cond (reached && around) D (D + 1))
@@ -33,51 +33,86 @@ pub between_sum : (u v : Numbers) → between u v
 unfolding between
 between_sum u v = sum_rule (ltb u.rank v.rank) (leb v.rank u.last) (ltb u.last u.rank) (v.depth - u.depth)
 
-module _ (a b : Numbers) (ha : Within a) (hb : Within b) where
-  -- The numbers hold all that the rule counts with.
-  between_in_order : between (in_order (order_of a)) (in_order (order_of b)) ≡ between a b
-  unfolding between order_of
-  between_in_order =
-      let da : order_of a / 4294967296 ≡ a.depth = omega (arith, ha.rank, ha.last) in
-      let ra : order_of a / 65536 % 65536 ≡ a.rank = omega (arith, ha.rank, ha.last) in
-      let la : order_of a % 65536 ≡ a.last = omega (arith, ha.last) in
-      let db : order_of b / 4294967296 ≡ b.depth = omega (arith, hb.rank, hb.last) in
-      let rb : order_of b / 65536 % 65536 ≡ b.rank = omega (arith, hb.rank, hb.last) in
-      rw (da, ra, la, db, rb)
+-- The numbers of a tag hold all that the rules count with.
+depth_back : (a : Numbers) → a.rank < 65536 → a.last < 65536 → order_of a / 4294967296 ≡ a.depth
+depth_back a rank last = omega arith
 
-  -- Of two tags of different ranks the one that comes first has the smaller number.
-  module _ (other : a.rank ≡ b.rank → ⊥) where
-    first_lesser : order_of a < order_of b → comes_first a b ≡ true
-    unfolding comes_first order_of
-    first_lesser less =
-        ⊎_elim (λ h. rw (lt-ltb a.depth b.depth h))
-        (λ h.
-        let level : a.depth ≡ b.depth = omega (arith, less, h, ha.rank, ha.last, hb.rank, hb.last) in
-        let ranks : a.rank < b.rank = ⊎_elim (λ g. g) (λ g. absurd (other (omega (arith, less, level, g, hb.last)))) (lt_or_ge a.rank b.rank) in
-        rw (le-ltb a.depth b.depth h, eq-eqb a.depth b.depth level, lt-ltb a.rank b.rank ranks))
-        (lt_or_ge a.depth b.depth)
+rank_back : (a : Numbers) → a.rank < 65536 → a.last < 65536 → order_of a / 65536 % 65536 ≡ a.rank
+rank_back a rank last = omega arith
 
-    first_greater : order_of b ≤ order_of a → comes_first a b ≡ false
-    unfolding comes_first order_of
-    first_greater less =
-        let deep : b.depth ≤ a.depth = omega (arith, less, ha.rank, ha.last, hb.rank, hb.last) in
-        ⊎_elim (λ level.
-        let ranks : b.rank ≤ a.rank = omega (arith, less, level, ha.last) in
-        rw (le-ltb a.depth b.depth deep, eq-eqb a.depth b.depth level, le-ltb a.rank b.rank ranks))
-        (λ levels. rw (le-ltb a.depth b.depth deep, ne_eqb a.depth b.depth levels))
-        (equal_or_not a.depth b.depth)
+last_back : (a : Numbers) → a.last < 65536 → order_of a % 65536 ≡ a.last
+last_back a last = omega arith
+
+-- Of two tags that have not one place, the one that comes first has the smaller number.
+module _ (a b : Numbers) (ar : a.rank < 65536) (al : a.last < 65536) (br : b.rank < 65536) (bl : b.last < 65536) where
+  lesser_first : order_of a < order_of b → (comes_first a b ≡ true) ⊎ ((a.depth ≡ b.depth) × (a.rank ≡ b.rank))
+  unfolding comes_first
+  lesser_first less = grind (arith, common_steps)
+
+  greater_second : order_of b ≤ order_of a → comes_first a b ≡ false
+  unfolding comes_first
+  greater_second less = grind (arith, common_steps)
+
+either : (b : Bool) (x y : ℕ) → x ≡ y → x ≡ cond b x y
+either true x y e = refl
+either false x y e = e
+
+-- By a rule that does not count with plan and component, and for which two tags of one place may be turned round.
+module _ (rule : Numbers → Numbers → ℕ)
+    (bare : (u v : Numbers) → rule (record { plan = 0; component = 0; depth = u.depth; rank = u.rank; last = u.last })
+    (record { plan = 0; component = 0; depth = v.depth; rank = v.rank; last = v.last }) ≡ rule u v)
+    (level : (u v : Numbers) → u.depth ≡ v.depth → u.rank ≡ v.rank → rule u v ≡ rule v u)
+  where
+    rule_back : (a b : Numbers) → a.rank < 65536 → a.last < 65536 → b.rank < 65536 → b.last < 65536 → rule (in_order (order_of a)) (in_order (order_of b)) ≡ rule a b
+    rule_back a b ar al br bl =
+        rw (depth_back a ar al, rank_back a ar al, last_back a al, depth_back b br bl, rank_back b br bl, last_back b bl) (bare a b)
+
+    counted : (a b : Numbers) → a.rank < 65536 → a.last < 65536 → b.rank < 65536 → b.last < 65536 →
+        rule (in_order (min (order_of a) (order_of b))) (in_order (max (order_of a) (order_of b))) ≡ cond (comes_first a b) (rule a b) (rule b a)
+    counted a b ar al br bl =
+        ⊎_elim
+        (λ less.
+        let low : min (order_of a) (order_of b) ≡ order_of a = omega (arith, less) in
+        let high : max (order_of a) (order_of b) ≡ order_of b = omega (arith, less) in
+        rw (low, high, rule_back a b ar al br bl)
+        (⊎_elim (λ f. rw f) (λ same. either (comes_first a b) (rule a b) (rule b a) (level a b same.0 same.1)) (lesser_first a b ar al br bl less)))
+        (λ less.
+        let low : min (order_of a) (order_of b) ≡ order_of b = omega (arith, less) in
+        let high : max (order_of a) (order_of b) ≡ order_of a = omega (arith, less) in
+        rw (low, high, rule_back b a br bl ar al, greater_second a b ar al br bl less))
+        (lt_or_ge (order_of a) (order_of b))
+
+level_between : (u v : Numbers) → u.depth ≡ v.depth → u.rank ≡ v.rank → between u v ≡ between v u
+unfolding between
+level_between u v d r = grind (arith, common_steps)
+
+level_short : (u v : Numbers) → u.depth ≡ v.depth → u.rank ≡ v.rank → short_between u v ≡ short_between v u
+unfolding short_between
+level_short u v d r = grind (arith, common_steps)
+
+bare_between : (u v : Numbers) → between (record { plan = 0; component = 0; depth = u.depth; rank = u.rank; last = u.last })
+    (record { plan = 0; component = 0; depth = v.depth; rank = v.rank; last = v.last }) ≡ between u v
+unfolding between
+bare_between u v = refl
+
+pub in_either_order : (a b : Numbers) → a.rank < 65536 → a.last < 65536 → b.rank < 65536 → b.last < 65536 →
+    between (in_order (min (order_of a) (order_of b))) (in_order (max (order_of a) (order_of b))) ≡ cond (comes_first a b) (between a b) (between b a)
+in_either_order = counted between bare_between level_between
+
+bare_short : (u v : Numbers) → short_between (record { plan = 0; component = 0; depth = u.depth; rank = u.rank; last = u.last })
+    (record { plan = 0; component = 0; depth = v.depth; rank = v.rank; last = v.last }) ≡ short_between u v
+unfolding short_between
+bare_short u v = refl
+
+pub short_in_either_order : (a b : Numbers) → a.rank < 65536 → a.last < 65536 → b.rank < 65536 → b.last < 65536 →
+    short_between (in_order (min (order_of a) (order_of b))) (in_order (max (order_of a) (order_of b)))
+    ≡ cond (comes_first a b) (short_between a b) (short_between b a)
+short_in_either_order = counted short_between bare_short level_short
 
 -- What the rule counts with the lesser number in front.
 pub compared_ordered : (a b : Numbers) → Within a → Within b → a.plan ≡ b.plan → a.component ≡ b.component → (a.rank ≡ b.rank → ⊥) →
     Handovers (between (in_order (min (order_of a) (order_of b))) (in_order (max (order_of a) (order_of b)))) ≡ compared_of a b
 compared_ordered a b ha hb one same other =
-    ⊎_elim
-    (λ less.
-    let low : min (order_of a) (order_of b) ≡ order_of a = omega (arith, less) in
-    let high : max (order_of a) (order_of b) ≡ order_of b = omega (arith, less) in
-    rw (low, high, between_in_order a b ha hb) (compared_first between a b one same other (first_lesser a b ha hb other less)))
-    (λ less.
-    let low : min (order_of a) (order_of b) ≡ order_of b = omega (arith, less) in
-    let high : max (order_of a) (order_of b) ≡ order_of a = omega (arith, less) in
-    rw (low, high, between_in_order b a hb ha) (compared_second between a b one same other (first_greater a b ha hb other less)))
-    (lt_or_ge (order_of a) (order_of b))
+    let ar : a.rank < 65536 = omega (arith, ha.rank) in let al : a.last < 65536 = omega (arith, ha.last) in
+    let br : b.rank < 65536 = omega (arith, hb.rank) in let bl : b.last < 65536 = omega (arith, hb.last) in
+    rw (in_either_order a b ar al br bl) (compared_ranks between a b one same other)

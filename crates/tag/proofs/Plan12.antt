@@ -3,18 +3,18 @@
 -- Assumes nothing.
 use Prim.Native.Nat.{ℕ}
 use mathlib.Core.{Path.◌≡◌, Path.refl, List.List, List.[], List.◌∷◌}
-use Rattle.refusals.specs.Question.{refusal_by, refusal_from, from, position_questions}
+use Rattle.refusals.specs.Question.{refusal_by, refusal_from}
 use Rattle.tag_bytes.specs.Fields.{tag_bytes}
 use Rattle.tag_bytes.specs.TagFile.{lookup_part}
 use Rattle.tag_bytes.proofs.Plan12 as bytes
 use Rattle.tag_bytes.proofs.Plan12.{tags}
 use Rattle.tag.specs.declared.pairs.PairAnswer.{PairAnswer}
 use Rattle.tag.specs.declared.pairs.PairAnswer.TheVariants.{Handovers, NoChain, Refused}
-use Rattle.tag.specs.Pairing.{agreeing, compare_questions, pair_questions, answer_of, pair_answer_of, place_questions, pair_at_questions, pair_at_answer_of}
+use Rattle.tag.specs.Pairing.{agreeing, pair_answer_by, pair_answer_of, pair_at_by, pair_at_answer_of}
 
 -- What a computation on two tags opens.
 unfoldable pub meaning : Unit {0}
-unfolding bytes.meaning from position_questions agreeing compare_questions pair_questions answer_of pair_answer_of place_questions pair_at_questions pair_at_answer_of
+unfolding bytes.meaning agreeing pair_answer_by pair_at_by
 meaning = tt
 
 -- The answer from the two tags that are looked up at two positions.

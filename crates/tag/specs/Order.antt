@@ -3,7 +3,7 @@
 use Rattle.std.specs.Prelude.{ℕ, ◌+◌, ◌*◌, ◌/◌, ◌%◌}
 use Rattle.interval_graph.specs.Numbers.{Numbers}
 
-unfoldable pub order_of : Numbers → ℕ
+abbrev pub order_of : Numbers → ℕ
 order_of n = 4294967296 * n.depth + 65536 * n.rank + n.last
 
 -- The three back from their number, with 0 for what the rule does not count with.

@@ -1,8 +1,11 @@
-// The reader's library: ten-byte tags read, written, looked up in a tag file and answered from. It knows no plan and
+// The reader's library: tags, long and short, read, written, looked up in a tag file and answered from. It knows no plan and
 // keeps no state.
 #![tactic(auto)]
 
 mod pairs;
+mod rule;
+mod short_rule;
 
 pub use pairs::{PairAnswer, ask_places, pair, pair_at};
-pub use tag_bytes::{LookupAnswer, Tag, TagRead, WriteAnswer, lookup, lookup_refusal, write};
+pub use rule::Ruled;
+pub use tag_bytes::{Label, ShortTag, Tag, lookup, lookup_refusal};
