@@ -17,7 +17,7 @@ pub(crate) fn write_plan(file: &mut [u8], windows: u16, minimum: u32, given: &[W
             .get(usize::from(position))
             .copied()
             .unwrap_or(stair(position));
-        plan::write_window(window, file, plan::window_place(position));
+        window.write(file, plan::window_place(position));
     }
 }
 

@@ -9,7 +9,7 @@ use poddreshi::{
 };
 use poddreshi_reader::poddreshi_pair_at;
 use std::io;
-use tag_bytes::Tag;
+use tag_bytes::{Label, Tag};
 
 // One byte more than any plan, so that a file that is too long is among the cases.
 const BUFFER_LENGTH: usize = HEADER_LENGTH + WINDOW_LENGTH * GREATEST_COUNT + 1;

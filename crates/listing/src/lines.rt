@@ -1,18 +1,20 @@
 // The lines of the listing, as they are printed.
 use refusals::Refusal;
 use std::fmt;
+use tree::Built;
 
 // The first line of a plan: its number, and how many windows and components it has.
-#[derive(Clone, Copy, Debug, PartialEq, Eq)]
-pub(crate) struct Heading {
-    pub(crate) plan: u16,
-    pub(crate) windows: u16,
-    pub(crate) components: u16,
-}
+#[derive(Clone, Copy)]
+pub(crate) struct Heading(pub(crate) Built);
 
 impl fmt::Display for Heading {
     fn fmt<W: fmt::Write>(&self, f: &mut fmt::Formatter<W>) -> fmt::Result {
-        write!(f, "{} {} {}", self.plan, self.windows, self.components)
+        let Built {
+            plan,
+            windows,
+            components,
+        } = self.0;
+        write!(f, "{plan} {windows} {components}")
     }
 }
 

@@ -11,8 +11,7 @@ use lines::{Heading, Refused};
 use plan::GREATEST_COUNT;
 use rows::Tables;
 use std::io::{self, Read};
-use tag_bytes::Tag;
-use tree::BuildAnswer;
+use tag_bytes::{Label, Tag};
 
 // The front of a buffer, filled until the input ends or no room is left. A read that fails ends the input too, and what came before it
 // counts. Of std `read_exact` does not say how much came, `read_to_end` takes memory, and `io::copy` reads on after an interruption.
@@ -40,19 +39,11 @@ fn print_listing(rt: &impl Print, file: &[u8]) -> io::Result<()> {
         &mut tags,
     );
     match answer {
-        BuildAnswer::Built {
-            plan,
-            windows,
-            components,
-        } => {
-            rt.println(Heading {
-                plan,
-                windows,
-                components,
-            })?;
-            tables.print_rows(rt, windows)
+        Ok(built) => {
+            rt.println(Heading(built))?;
+            tables.print_rows(rt, built.windows)
         }
-        BuildAnswer::Refused(refusal) => rt.println(Refused(refusal)),
+        Err(refusal) => rt.println(Refused(refusal)),
     }
 }
 
