@@ -1,5 +1,5 @@
-// The papers' cases that are not among those to be proved, and some beside them: a line of standard input for each, which is printed
-// again with the answers of the library's calls behind it, as they cross into C. A line that is no case is printed as it is.
+// Cases that are not among those to be proved: a line of standard input for each, which is printed again with the answers of the
+// library's calls behind it, as they cross into C. A line that is no case is printed as it is.
 //   file BYTES WINDOWS MINIMUM OFFSET LENGTH OFFSET LENGTH
 //       a file of so many bytes, with so many windows and this minimum named, and the first two windows; its build, its short tags, and
 //       the chain between positions 0 and 1 with its table
@@ -19,45 +19,46 @@
 
 ghost use Rattle.std.specs.Prelude.{◌≤◌, length};
 
+mod answers;
 mod files;
 mod lines;
+mod numbers;
 mod tries;
-mod words;
 
-use std::io::{self, Read};
+use lines::Case;
+use std::io::{self, Read, Write};
 
+// Prints each line, and before its end what its case's calls answer. A case is read from all that is left of the text, since a line with
+// too few numbers takes those of the lines behind it. What stands behind the last line's end is no case.
 fn try_lines(rt: &impl Print, text: &[u8]) -> io::Result<()> {
-    let mut start = 0;
-    for at in 0..text.len() {
-        if text[at] == b'\n' {
-            tries::try_line(rt, text, start)?;
-            start = at + 1;
+    let mut out = io::writer(rt);
+    let mut rest = text;
+    while let Some(end) = rest.iter().position(|byte| *byte == b'\n') {
+        out.write_all(&rest[..end])?;
+        if let Some(case) = Case::read(rest) {
+            case.try_calls(rt)?;
         }
-        words::print_byte(rt, text[at])?;
+        out.write_all(b"\n")?;
+        rest = &rest[end + 1..];
     }
-    Ok(())
+    out.write_all(rest)
 }
 
-// Fills a buffer from its front, and answers how many bytes came. A read that fails ends the input.
-fn read_full(from: &mut impl Read, buffer: &mut [u8]) -> usize
-    ensures { result ≤ length buffer.new }
+// The front of a buffer, filled until the input ends or no room is left. A read that fails ends the input too, and what came before it
+// counts. Of std `read_exact` does not say how much came, `read_to_end` takes memory, and `io::copy` reads on after an interruption.
+fn read_full<'a>(from: &mut impl Read, buffer: &'a mut [u8]) -> &'a [u8]
+    ensures { length result.now ≤ length buffer.old }
 {
-    let mut done = 0;
-    while done < buffer.len() {
-        let more = match from.read(&mut buffer[done..]) {
-            Ok(count) => count,
-            Err(_) => 0,
-        };
-        if more == 0 {
-            break;
-        }
-        done += more;
+    let mut filled = 0;
+    while let Ok(more @ 1..) = from.read(&mut buffer[filled..]) {
+        filled += more;
     }
-    done
+    &buffer[..filled]
 }
 
 fn main(rt: HostRuntime) -> io::Result<()> {
-    let mut text = [0; 4096];
-    let read = read_full(&mut rt.reader(), &mut text);
-    try_lines(&rt, &text[..read])
+    // What stands behind so many bytes is not read.
+    let mut buffer = [0; 4096];
+    let text = read_full(&mut rt.reader(), &mut buffer);
+    try_lines(&rt, text)
 }

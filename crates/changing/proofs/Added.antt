@@ -11,7 +11,7 @@ use Rattle.sequences.proofs.Search.{count_le, count_within, count_behind}
 use Rattle.plan.specs.declared.windows.Window.{Window}
 use Rattle.plan.specs.File.{window_count, minimum_handover, window_at, end_of}
 use Rattle.plan.specs.Validation.{greatest_count, greatest_end, AcceptedPlan}
-use Rattle.plan.proofs.Accepted.{Sound, accepted_sound, sound_accepted, offsets_sorted}
+use Rattle.plan.proofs.Acceptance.{Sound, accepted_sound, sound_accepted, offsets_sorted}
 use Rattle.changing.specs.Change.{windows_of, added_place, changed_windows, changed_file, adding}
 use Rattle.changing.proofs.Lists.{length_inserted, inserted_before, inserted_there, inserted_behind}
 use Rattle.changing.proofs.Changed.{same_offset, length-windows_of, get_or-windows_of, changed_minimum, changed_count, changed_whole}

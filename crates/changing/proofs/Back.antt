@@ -11,7 +11,7 @@ use Rattle.plan.specs.declared.windows.Window.{Window}
 use Rattle.refusals.specs.Question.{question, position_question, all_yes}
 use Rattle.plan.specs.File.{window_count, minimum_handover, window_at, end_of}
 use Rattle.plan.specs.Validation.{greatest_count, greatest_end, AcceptedPlan}
-use Rattle.plan.proofs.Accepted.{accepted_sound, offsets_sorted}
+use Rattle.plan.proofs.Acceptance.{accepted_sound, offsets_sorted}
 use Rattle.changing.specs.Change.{windows_of, added_place, removed_at, changed_windows, changed_file, adding, withdrawing}
 use Rattle.changing.specs.Questions.{has_place, edit_questions, AcceptedChange}
 use Rattle.changing.proofs.{Lists.removed_inserted, Changed.same_offset, Changed.length-windows_of, Changed.changed_windows_lem}

@@ -9,7 +9,7 @@ use Rattle.sequences.proofs.Tests.{lt_or_ge}
 use Rattle.plan.specs.declared.windows.Window.{Window}
 use Rattle.plan.specs.File.{window_count, minimum_handover, window_at, end_of}
 use Rattle.plan.specs.Validation.{greatest_end, AcceptedPlan}
-use Rattle.plan.proofs.Accepted.{accepted_sound, sound_accepted, offsets_sorted}
+use Rattle.plan.proofs.Acceptance.{accepted_sound, sound_accepted, offsets_sorted}
 use Rattle.changing.specs.Change.{windows_of, changed_windows, changed_file, withdrawing}
 use Rattle.changing.proofs.Lists.{length_removed, removed_before, removed_behind}
 use Rattle.changing.proofs.Changed.{same_offset, length-windows_of, get_or-windows_of, changed_minimum, changed_count, changed_whole}

@@ -18,7 +18,7 @@ use Rattle.plan.specs.declared.windows.Window.{Window}
 use Rattle.plan.specs.File.{header_length, window_length, window_place, file_length, window_count, minimum_handover}
 use Rattle.plan.specs.File.{header_bytes, window_bytes, file_of}
 use Rattle.plan.specs.Validation.{AcceptedPlan}
-use Rattle.plan.proofs.Accepted.{accepted_sound}
+use Rattle.plan.proofs.Acceptance.{accepted_sound}
 use Rattle.plan.proofs.Written.{length-window_bytes, length-header_bytes, front_long, windows_front, windows_behind}
 use Rattle.changing.specs.Change.{windows_of, added_place, inserted_at, removed_at, changed_windows, changed_file, adding, withdrawing}
 use Rattle.changing.specs.Steps.{place_of, Addable, Withdrawable}

@@ -1,5 +1,6 @@
 -- What is said of sameness: two accepted plans are the same exactly if their tag files are equal apart from the plan number.
 -- Assumes nothing.
+use Rattle.std.specs.Prelude.{Ok}
 use Prim.Native.Nat.{ℕ, ◌<◌}
 use mathlib.Core.{Bool.true, Bool.cond, Path.◌≡◌, Path.refl, Path.sym, Path.ap, Path.◌∙◌, Logic.◌↔◌, Logic.⊎_elim, List.List, List.◌++◌}
 use native.Mathlib.Omega.{arith}
@@ -12,12 +13,11 @@ use Rattle.interval_graph.proofs.Sameness.{SameNumbers}
 use Rattle.wire.specs.LittleEndian.{bytes16}
 use Rattle.plan.specs.File.{window_count}
 use Rattle.overlap.specs.Overlap.{overlaps}
-use Rattle.tag_bytes.specs.declared.reader.Tag.{Tag}
+use Rattle.tag_bytes.specs.declared.tag.Tag.{Tag}
 use Rattle.tag_bytes.specs.Fields.{tag_of, tag_with, tag_bytes, short_bytes}
 use Rattle.tag_bytes.proofs.Fields.{tag_of-tag_bytes}
 use Rattle.tag_bytes.proofs.TagFile.{tag_file_lookup}
 use Rattle.numbering.specs.Tables.{numbers_at}
-use Rattle.sameness.specs.declared.SameAnswer.TheVariants as SameAnswer
 use Rattle.sameness.specs.Sameness.{same_overlap, same_answer_of}
 use Rattle.sameness.proofs.Sameness.{pairs_iff_overlaps, same_iff_numbers, compared}
 use Rattle.demands.specs.EndToEnd.{tag_at}
@@ -85,17 +85,17 @@ test_same first second = (
   λ s. and_intro _ _ (eq-eqb _ _ s.count) ((pairs_iff_overlaps _ _ _).1 s.pairs),
 )
 
-different_not_same : SameAnswer.Different ≡ SameAnswer.Same → ⊥
+different_not_same : ◌≡◌ {A = Result Bool Refusal} (Ok false) (Ok true) → ⊥
 different_not_same e = let z : ◌≡◌ {A = ℕ} 0 1 = cc in omega arith
 
-module _ (first second : List ℕ) (answer : same_answer_of first second ≡ cond (same_overlap first second) SameAnswer.Same SameAnswer.Different) where
-  same_answered : (same_answer_of first second ≡ SameAnswer.Same) ↔ SameOverlap first second
+module _ (first second : List ℕ) (answer : same_answer_of first second ≡ Ok (same_overlap first second)) where
+  same_answered : (same_answer_of first second ≡ Ok true) ↔ SameOverlap first second
   same_answered = (
     λ e. ⊎_elim (λ t. (test_same first second).0 t) (λ t. absurd (different_not_same (sym (rw t at answer) ∙ e))) (truth (same_overlap first second)),
     λ s. rw ((test_same first second).1 s) at answer,
   )
 
-  different_answered : (same_answer_of first second ≡ SameAnswer.Different) ↔ (SameOverlap first second → ⊥)
+  different_answered : (same_answer_of first second ≡ Ok false) ↔ (SameOverlap first second → ⊥)
   different_answered = (
     λ e s. different_not_same (sym e ∙ same_answered.1 s),
     λ other. ⊎_elim (λ t. absurd (other ((test_same first second).0 t))) (λ t. rw t at answer) (truth (same_overlap first second)),

@@ -1,6 +1,7 @@
 -- Demand 3: the theory of `interval_graph` at the overlap of an accepted plan, through the tags that build writes and the chain that
 -- the plan answers with.
 -- Assumes nothing.
+use Rattle.std.specs.Prelude.{Ok, Err, Some, None}
 use Prim.Native.Nat.{ℕ, suc, ◌≤◌, ◌<◌}
 use mathlib.Core.{Bool.true, Bool.false, Bool.◌&&◌, Path.◌≡◌, Path.refl, Path.sym, Path.ap, Path.◌∙◌, Logic.◌↔◌, Logic.⊎_elim, List.List}
 use mathlib.Core.{List.[], List.◌∷◌}
@@ -22,14 +23,13 @@ use Rattle.refusals.specs.Question.{refusal_by, question, from, first_no, positi
 use Rattle.plan.specs.File.{plan_number, window_count}
 use Rattle.overlap.specs.Overlap.{overlaps}
 use Rattle.plan.specs.Validation.{AcceptedPlan, validate_answer_of}
-use Rattle.plan.proofs.Accepted.{accepted_validated}
+use Rattle.plan.proofs.Acceptance.{accepted_validated}
 use Rattle.overlap.proofs.InOrder.{interval_order}
 use Rattle.plan.proofs.Calls.{plan_accepted}
 use Rattle.tag.specs.declared.pairs.PairAnswer.{PairAnswer}
 use Rattle.tag.specs.Pairing.{agreeing, compare_questions, answer_of, compared_by, pair_answer_of}
 use Rattle.tag.proofs.Pairing.{pair_tag_file}
 use Rattle.numbering.specs.Tables.{numbers_at}
-use Rattle.path.specs.declared.answers.ChainAnswer.{ChainAnswer}
 use Rattle.path.specs.Chain.{chain_between, chain_questions, chain_found, chain_answer_of, after_chain}
 use Rattle.demands.specs.EndToEnd.{Answered, tag_at, Demand3}
 use Rattle.demands.proofs.Refusals.{outcome_answered}
@@ -47,17 +47,17 @@ answer_none (apart j) = (λ e. let z : ◌≡◌ {A = ℕ} 0 1 = cc in absurd (o
 answer_none no_chain = (λ e. refl, λ e. refl)
 
 -- What is found of a chain: how many entries it has, or that it is empty.
-found_some : (l : List ℕ) → (l ≡ [] → ⊥) → chain_found l ≡ ChainAnswer.Chain (length l)
+found_some : (l : List ℕ) → (l ≡ [] → ⊥) → chain_found l ≡ Ok (Some (length l))
 unfolding chain_found
 found_some [] some = absurd (some refl)
 found_some (x ∷ l) some = refl
 
-found_none : (l : List ℕ) → chain_found l ≡ ChainAnswer.NoChain → l ≡ []
+found_none : (l : List ℕ) → chain_found l ≡ Ok None → l ≡ []
 unfolding chain_found
 found_none [] e = refl
 found_none (x ∷ l) e = let z : ◌≡◌ {A = ℕ} 0 1 = cc in absurd (omega arith)
 
-found_count : (l : List ℕ) (entries : ℕ) → chain_found l ≡ ChainAnswer.Chain entries → entries ≡ length l
+found_count : (l : List ℕ) (entries : ℕ) → chain_found l ≡ Ok (Some entries) → entries ≡ length l
 unfolding chain_found
 found_count [] entries e = let z : ◌≡◌ {A = ℕ} 0 1 = cc in absurd (omega arith)
 found_count (x ∷ l) entries e = cc
@@ -92,10 +92,10 @@ module _ (file : List ℕ) (ok : AcceptedPlan file) (u v : ℕ) (hu : u < window
 
   -- The chain call asks only for room.
   chain_asked : (room : ℕ) → chain_answer_of file u v room
-      ≡ first_no (room_question (length (chain_between file u v)) room ∷ []) ChainAnswer.Refused (chain_found (chain_between file u v))
+      ≡ first_no (room_question (length (chain_between file u v)) room ∷ []) Err (chain_found (chain_between file u v))
   unfolding chain_answer_of chain_questions position_questions position_question question from first_no
   chain_asked room =
-      sym (plan_accepted file _ ChainAnswer.Refused (chain_found (chain_between file u v)) (validate_answer_of file) refl _ _ (accepted_validated file ok))
+      sym (plan_accepted file _ Err (chain_found (chain_between file u v)) (validate_answer_of file) refl _ _ (accepted_validated file ok))
       ∙ rw (lt-ltb u (window_count file) hu, lt-ltb v (window_count file) hv)
 
   -- Where the table holds the chain, the answer is what is found of it; where it does not, the answer is a refusal.
@@ -103,7 +103,7 @@ module _ (file : List ℕ) (ok : AcceptedPlan file) (u v : ℕ) (hu : u < window
   unfolding room_question question first_no
   chain_roomy room fits = chain_asked room ∙ rw (le-leb (length (chain_between file u v)) room fits)
 
-  chain_short : (room : ℕ) → leb (length (chain_between file u v)) room ≡ false → chain_answer_of file u v room ≡ ChainAnswer.Refused (refusal_by 8)
+  chain_short : (room : ℕ) → leb (length (chain_between file u v)) room ≡ false → chain_answer_of file u v room ≡ Err (refusal_by 8)
   unfolding room_question question first_no
   chain_short room short = chain_asked room ∙ rw short
 
@@ -112,7 +112,7 @@ module _ (file : List ℕ) (ok : AcceptedPlan file) (u v : ℕ) (hu : u < window
   empty_apart = chain_empty_iff_apart order u v hu hv
 
   -- What is answered, and the table afterwards.
-  module _ (before out : List ℕ) (pair : PairAnswer) (chain : ChainAnswer) (paired : pair ≡ pair_answer_of (tag_at file u) (tag_at file v))
+  module _ (before out : List ℕ) (pair : PairAnswer) (chain : Result (Option ℕ) Refusal) (paired : pair ≡ pair_answer_of (tag_at file u) (tag_at file v))
       (chained : chain ≡ chain_answer_of file u v (length before)) (after : out ≡ after_chain chain (chain_between file u v) before) where
     counting : (k : ℕ) → (pair ≡ PairAnswer.Handovers k) ↔ LeastHandovers (window_count file) (overlaps file) u v k
     counting k =
@@ -125,29 +125,29 @@ module _ (file : List ℕ) (ok : AcceptedPlan file) (u v : ℕ) (hu : u < window
     roomy fits = chained ∙ chain_roomy (length before) fits
 
     -- A chain that was answered was found, and stands at the front of the table.
-    entries_are : (entries : ℕ) → chain ≡ ChainAnswer.Chain entries → entries ≡ length (chain_between file u v)
+    entries_are : (entries : ℕ) → chain ≡ Ok (Some entries) → entries ≡ length (chain_between file u v)
     entries_are entries e =
         ⊎_elim (λ t. found_count (chain_between file u v) entries (sym (roomy (leb-true _ _ t)) ∙ e))
         (λ t. let z : ◌≡◌ {A = ℕ} 0 1 = cc (chain_short (length before) t) in absurd (omega arith))
         (truth (leb (length (chain_between file u v)) (length before)))
 
-    written : (entries : ℕ) → chain ≡ ChainAnswer.Chain entries → take entries out ≡ chain_between file u v
+    written : (entries : ℕ) → chain ≡ Ok (Some entries) → take entries out ≡ chain_between file u v
     unfolding after_chain
     written entries e = rw (entries_are entries e, after, e) (take_overwritten before (chain_between file u v))
 
     -- No chain is answered exactly if there is none: it is answered whatever the room.
-    none_found : chain ≡ ChainAnswer.NoChain → chain_between file u v ≡ []
+    none_found : chain ≡ Ok None → chain_between file u v ≡ []
     none_found e =
         ⊎_elim (λ t. found_none (chain_between file u v) (sym (roomy (leb-true _ _ t)) ∙ e))
         (λ t. let z : ◌≡◌ {A = ℕ} 0 1 = cc (chain_short (length before) t) in absurd (omega arith))
         (truth (leb (length (chain_between file u v)) (length before)))
 
-    found_nothing : chain_between file u v ≡ [] → chain ≡ ChainAnswer.NoChain
+    found_nothing : chain_between file u v ≡ [] → chain ≡ Ok None
     unfolding chain_found
     found_nothing e = roomy (rw e (omega arith)) ∙ ap chain_found e
 
     -- A chain that was answered joins the two.
-    joined : (entries : ℕ) → chain ≡ ChainAnswer.Chain entries → Joined (window_count file) (overlaps file) u v
+    joined : (entries : ℕ) → chain ≡ Ok (Some entries) → Joined (window_count file) (overlaps file) u v
     joined entries e =
         ⊎_elim (root_joined order u v hu hv) (λ other.
         let none = found_nothing (empty_apart.1 (λ j. other (joined_root order u v j))) in
@@ -162,12 +162,12 @@ module _ (file : List ℕ) (ok : AcceptedPlan file) (u v : ℕ) (hu : u < window
         let some = chain_some (chain_between file u v) (λ none. empty_apart.0 none (least.attained.0, least.attained.1)) in
         omega (arith, least_is_chain order u v k hu hv least)
 
-    given : (k : ℕ) → pair ≡ PairAnswer.Handovers k → k < length out → chain ≡ ChainAnswer.Chain (suc k)
+    given : (k : ℕ) → pair ≡ PairAnswer.Handovers k → k < length out → chain ≡ Ok (Some (suc k))
     unfolding after_chain
     given k e room =
         ⊎_elim
         (λ t. roomy (leb-true _ _ t) ∙ (found_some (chain_between file u v) (λ none. absurd (omega (arith, chain_long k e, ap (length {A = ℕ}) none)))
-        ∙ ap ChainAnswer.Chain (chain_long k e)))
+        ∙ ap (λ n. Ok (Some n)) (chain_long k e)))
         (λ t. let left : out ≡ before = rw (chained ∙ chain_short (length before) t) at after in
         absurd (omega (arith, leb-false (length (chain_between file u v)) (length before) t, chain_long k e, ap (length {A = ℕ}) left)))
         (truth (leb (length (chain_between file u v)) (length before)))

@@ -1,5 +1,6 @@
 -- Q-8: question 5 of a window that is a plan by itself and of one that is added; ends, margins and lasts in an accepted plan; and the cases.
 -- Assumes nothing.
+use Rattle.std.specs.Prelude.{Err}
 use Prim.Native.Nat.{ℕ, ◌+◌, ◌≤◌, ◌<◌}
 use mathlib.Core.{Path.◌≡◌, Path.refl, Path.sym, Path.◌∙◌, Bool.true, Logic.◌≢◌, Logic.⊎_elim, List.List, List.[], List.◌∷◌}
 use native.Mathlib.Omega.{arith}
@@ -8,20 +9,17 @@ use lib.IntN.{pos, neg_ℤ}
 use lib.Signed.{◌≤ℤ◌}
 use borrow.Author.Tests.{lt-ltb, le-leb, lt-leb, ne_eqb}
 use Rattle.sequences.proofs.Tests.{lt_or_ge}
-use Rattle.refusals.specs.declared.Asked.TheVariants as Asked
 use Rattle.refusals.specs.Question.{refusal_by, question, from, first_no, all_yes, position_question, position_questions}
 use Rattle.plan.specs.declared.windows.Window.{Window}
-use Rattle.plan.specs.declared.questions.Validation.TheVariants as Validation
 use Rattle.plan.specs.File.{plan_number, window_count, minimum_handover, window_at, end_of, file_of}
 use Rattle.plan.specs.Validation.{greatest_count, greatest_end, minimum_passes, window_questions, AcceptedPlan, validate_answer_of}
-use Rattle.plan.proofs.{Accepted.accepted_sound, Calls.plan_passed, Plan12.plan_meaning}
+use Rattle.plan.proofs.{Acceptance.accepted_sound, Calls.plan_passed, Plan12.plan_meaning}
 use Rattle.plan.proofs.Validated.{ask_5, ask_own_no, windows_answer, passed_start, passed_refused}
 use Rattle.plan.proofs.Written.{length-file_of, plan-file_of, count-file_of, minimum_file_of, window_file_of, windows_pass, accepted-file_of}
 use Rattle.overlap.specs.Overlap.{overlaps, margin_reaches}
 use Rattle.overlap.specs.Margin.{margin_of, margin_between, margin_questions, margin_answer_of}
 use Rattle.overlap.proofs.{Overlap.overlaps_in_order, Margining.margin_most, Margining.margin_least}
 use Rattle.minutes.proofs.Reached.{behind_last, not_behind}
-use Rattle.numbering.specs.declared.answers.BuildAnswer.TheVariants as BuildAnswer
 use Rattle.changing.specs.Change.{adding}
 use Rattle.changing.specs.Questions.{has_place, edit_questions, record_questions, AcceptedChange, change_questions, change_answer_of}
 use Rattle.changing.proofs.Asked.{accept_change, change_added}
@@ -48,14 +46,14 @@ module _ (plan minimum offset length : ℕ) (passes : minimum_passes minimum ≡
       accepted-file_of plan minimum windows (span offset length)
       ∙ rw (passes, le-leb minimum length long, le-leb (offset + length) greatest_end early, le-leb 0 offset (omega arith))
 
-  alone_late : 4294967295 < offset + length → validate_answer_of file ≡ Validation.Refused (refusal_by 5)
+  alone_late : 4294967295 < offset + length → validate_answer_of file ≡ Err (refusal_by 5)
   unfolding end_of
   alone_late late =
       let whole = length-file_of plan minimum windows in
       let own = ask_5 minimum (span offset length) long late in
-      let asked = ask_own_no minimum 0 (span offset length) (Asked.Refused (refusal_by 5)) own (refusal_by 5) refl in
+      let asked = ask_own_no minimum 0 (span offset length) (Err (refusal_by 5)) own (refusal_by 5) refl in
       sym (windows_answer file 1 (sym (count-file_of plan minimum windows)) (omega (arith, whole)) (omega arith) minimum
-      (sym (minimum_file_of plan minimum windows)) passes plan (sym (plan-file_of plan minimum windows)) whole (Validation.Refused (refusal_by 5))
+      (sym (minimum_file_of plan minimum windows)) passes plan (sym (plan-file_of plan minimum windows)) whole (Err (refusal_by 5))
       (passed_refused file minimum plan 1 0 0 (span offset length) (omega arith) (passed_start file minimum plan 1) (sym read) (refusal_by 5) asked))
 
 pub ends_asked : EndsAsked
@@ -110,10 +108,10 @@ module _ (file : List ℕ) (plan offset length : ℕ) (ok : AcceptedPlan file) (
       (rw (le-leb (minimum_handover file) length long, le-leb (offset + length) greatest_end early))
 
   added_late : 4294967295 < offset + length → (changed tags : ℕ) →
-      change_answer_of file (adding plan (span offset length)) changed tags ≡ BuildAnswer.Refused (refusal_by 5)
+      change_answer_of file (adding plan (span offset length)) changed tags ≡ Err (refusal_by 5)
   unfolding end_of change_answer_of change_questions record_questions has_place edit_questions question first_no
   added_late late changed tags =
-      plan_passed file _ BuildAnswer.Refused _ ok
+      plan_passed file _ Err _ ok
       ∙ rw (
         lt-ltb (window_count file) greatest_count few,
         ne_eqb plan (plan_number file) other,

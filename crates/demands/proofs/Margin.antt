@@ -1,23 +1,23 @@
 -- Q-7: the call answers with the margin, and what the margin says.
 -- Assumes nothing.
+use Rattle.std.specs.Prelude.{Ok, Err}
 use Prim.Native.Nat.{ℕ, ◌≤◌, ◌<◌}
 use mathlib.Core.{Path.◌≡◌, Path.refl, Path.sym, Path.◌∙◌, List.List}
 use native.Mathlib.Omega.{arith}
 use borrow.Author.Tests.{lt-ltb}
 use Rattle.refusals.specs.Question.{question, from, first_no, position_question, position_questions}
 use Rattle.plan.specs.{File.window_count, File.minimum_handover, File.window_at, Validation.AcceptedPlan, Validation.validate_answer_of}
-use Rattle.plan.proofs.{Accepted.accepted_sound, Accepted.accepted_validated, Calls.plan_accepted}
+use Rattle.plan.proofs.{Acceptance.accepted_sound, Acceptance.accepted_validated, Calls.plan_accepted}
 use Rattle.overlap.specs.Margin.{margin_between, margin_questions, margin_answer_of}
-use Rattle.overlap.specs.declared.margins.MarginAnswer.TheVariants as MarginAnswer
 use Rattle.overlap.proofs.Overlap.{overlaps_minimum, minimum_overlaps}
 use Rattle.overlap.proofs.Margining.{margin_symmetric, margin_shared, margin_gap, margin_reaches_lem, margin_own, reaches_margin}
 use Rattle.demands.specs.Margin.{Margins, MarginTested}
 
 margin_given : (file : List ℕ) → AcceptedPlan file → (u v : ℕ) → u < window_count file → v < window_count file →
-    margin_answer_of file u v ≡ MarginAnswer.Margin (margin_between file u v)
+    margin_answer_of file u v ≡ Ok (margin_between file u v)
 unfolding margin_answer_of margin_questions position_questions position_question question from first_no
 margin_given file ok u v hu hv =
-    sym (plan_accepted file _ MarginAnswer.Refused _ (validate_answer_of file) refl _ _ (accepted_validated file ok))
+    sym (plan_accepted file _ Err _ (validate_answer_of file) refl _ _ (accepted_validated file ok))
     ∙ rw (lt-ltb u (window_count file) hu, lt-ltb v (window_count file) hv)
 
 pub margins : Margins

@@ -10,7 +10,7 @@ use Rattle.refusals.specs.Question.{all_yes}
 use Rattle.plan.specs.{declared.windows.Window.Window, File.minimum_handover, File.window_at, File.end_of, File.file_of}
 use Rattle.overlap.specs.Overlap.{overlaps, margin_reaches, shares_minute}
 use Rattle.overlap.proofs.Plan12.{meaning}
-use Rattle.plan.proofs.Accepted.{accepted_sound}
+use Rattle.plan.proofs.Acceptance.{accepted_sound}
 use Rattle.overlap.proofs.Overlap.{overlaps_minimum, minimum_overlaps, overlaps_in_order, as_before}
 use Rattle.overlap.proofs.InOrder.{interval_order}
 use Rattle.minutes.specs.Tables.{parent_of, last_of}

@@ -1,12 +1,13 @@
 -- Q-4: a page over build's tag file says of each record what demand 3 says of its windows; and of every tag file, that each record is
 -- filled by itself.
 -- Assumes nothing.
+use Rattle.std.specs.Prelude.{Ok, Err}
 use Prim.Native.Nat.{ℕ, zero, suc, ◌%◌, ◌<◌}
 use mathlib.Core.{Path.◌≡◌, Path.refl, Path.sym, Path.ap, Path.◌∙◌, List.List, List.[], List.◌∷◌, List.map}
 use native.Mathlib.Omega.{arith}
 use lib.ListN.{length, get_or, length-map}
 use borrow.Author.Tests.{lt-ltb}
-use Rattle.refusals.specs.declared.Refusal.{Refusal}
+use Rattle.refusals.specs.declared.refusal.Refusal.{Refusal}
 use Rattle.refusals.specs.Question.{question, from, first_no, position_question, position_questions}
 use Rattle.plan.specs.File.{window_count}
 use Rattle.plan.specs.Validation.{AcceptedPlan}
@@ -32,18 +33,18 @@ get_or_map f (x ∷ l) (suc i) d less = let inner : i < length l = omega (arith,
 
 -- By the page's answer.
 module _ (tags : List ℕ) (queries : List Query) where
-  as_map : page_answer_of tags ≡ PageAnswer.Filled → page_over tags queries ≡ map (filled tags) queries
+  as_map : page_answer_of tags ≡ Ok tt → page_over tags queries ≡ map (filled tags) queries
   unfolding if_filled after_page
   as_map e = rw e
 
-  as_before : (r : Refusal) → page_answer_of tags ≡ PageAnswer.Refused r → page_over tags queries ≡ queries
+  as_before : (r : Refusal) → page_answer_of tags ≡ Err r → page_over tags queries ≡ queries
   unfolding if_filled after_page
   as_before r e = rw e
 
 after_long : (answer : PageAnswer) (tags : List ℕ) (queries : List Query) → length (after_page answer tags queries) ≡ length queries
 unfolding if_filled after_page
-after_long PageAnswer.Filled tags queries = length-map queries (filled tags)
-after_long (PageAnswer.Refused r) tags queries = refl
+after_long Ok tt tags queries = length-map queries (filled tags)
+after_long (Err r) tags queries = refl
 
 -- A filled record is filled already.
 map_twice : (tags : List ℕ) (queries : List Query) → map (filled tags) (map (filled tags) queries) ≡ map (filled tags) queries
@@ -54,8 +55,8 @@ map_twice tags (query ∷ queries) = ap (λ (later : List Query). filled tags qu
 after_twice : (answer : PageAnswer) (tags : List ℕ) (queries : List Query) →
     after_page answer tags (after_page answer tags queries) ≡ after_page answer tags queries
 unfolding if_filled after_page
-after_twice PageAnswer.Filled tags queries = map_twice tags queries
-after_twice (PageAnswer.Refused r) tags queries = refl
+after_twice Ok tt tags queries = map_twice tags queries
+after_twice (Err r) tags queries = refl
 
 pub page_filled : PageFilled
 unfolding as_one_pair filled with_answer

@@ -1,5 +1,6 @@
 -- Q-5: the call answers by the definition that computes, of which the theory says that it is what chains say.
 -- Assumes nothing.
+use Rattle.std.specs.Prelude.{Err}
 use Prim.Native.Nat.{ℕ, ◌<◌}
 use mathlib.Core.{Path.◌≡◌, Path.refl, Path.sym, Path.◌∙◌, List.List, List.[]}
 use borrow.Author.Tests.{lt-ltb}
@@ -9,20 +10,19 @@ use Rattle.interval_graph.proofs.Farthest.{reach_far, far_farthest, farthest_uni
 use Rattle.refusals.specs.Question.{question, first_no, position_question}
 use Rattle.plan.specs.{File.window_count, Validation.AcceptedPlan, Validation.validate_answer_of}
 use Rattle.overlap.specs.Overlap.{overlaps}
-use Rattle.plan.proofs.{Accepted.accepted_validated, Calls.plan_accepted}
+use Rattle.plan.proofs.{Acceptance.accepted_validated, Calls.plan_accepted}
 use Rattle.overlap.proofs.InOrder.{interval_order}
 use Rattle.reaching.specs.Reach.{reach_questions, reach_in, reach_of, reach_answer_of}
-use Rattle.reaching.specs.declared.answers.ReachAnswer.TheVariants as ReachAnswer
 use Rattle.demands.specs.Reach.{ReachExact, Components, ReachBounds}
 use Rattle.demands.proofs.Counts.{demand_3}
 
 -- For a window of an accepted plan the call answers with the definition's three numbers.
 reach_answered : (file : List ℕ) → AcceptedPlan file → (at : ℕ) → at < window_count file →
-    reach_answer_of file at ≡ ReachAnswer.Reach (reach (window_count file) (overlaps file) at)
+    reach_answer_of file at ≡ reach_as (reach (window_count file) (overlaps file) at)
     (smaller (window_count file) (overlaps file) at) (larger (window_count file) (overlaps file) at)
 unfolding reach_answer_of reach_in reach_of reach_questions position_question question first_no
 reach_answered file ok at h =
-    sym (plan_accepted file _ ReachAnswer.Refused _ (validate_answer_of file) refl _ _ (accepted_validated file ok))
+    sym (plan_accepted file _ Err _ (validate_answer_of file) refl _ _ (accepted_validated file ok))
     ∙ rw (lt-ltb at (window_count file) h)
 
 module _ (file : List ℕ) (ok : AcceptedPlan file) (at : ℕ) (h : at < window_count file) where
@@ -31,15 +31,15 @@ module _ (file : List ℕ) (ok : AcceptedPlan file) (at : ℕ) (h : at < window_
       (smaller (window_count file) (overlaps file) at) (larger (window_count file) (overlaps file) at)
   found = let order = interval_order file ok in far_farthest order at _ _ _ h (reach_far order at h)
 
-  answered_exactly : (k u v : ℕ) → reach_answer_of file at ≡ ReachAnswer.Reach k u v → Farthest (window_count file) (overlaps file) at k u v
+  answered_exactly : (k u v : ℕ) → reach_answer_of file at ≡ reach_as k u v → Farthest (window_count file) (overlaps file) at k u v
   answered_exactly k u v e =
-      let same : ReachAnswer.Reach k u v ≡ ReachAnswer.Reach (reach (window_count file) (overlaps file) at)
+      let same : reach_as k u v ≡ reach_as (reach (window_count file) (overlaps file) at)
       (smaller (window_count file) (overlaps file) at) (larger (window_count file) (overlaps file) at) = sym e ∙ reach_answered file ok at h
       in
       let p : k ≡ reach (window_count file) (overlaps file) at = cc in let q : u ≡ smaller (window_count file) (overlaps file) at = cc in
       let r : v ≡ larger (window_count file) (overlaps file) at = cc in rw (p, q, r) found
 
-  exactly_answered : (k u v : ℕ) → Farthest (window_count file) (overlaps file) at k u v → reach_answer_of file at ≡ ReachAnswer.Reach k u v
+  exactly_answered : (k u v : ℕ) → Farthest (window_count file) (overlaps file) at k u v → reach_answer_of file at ≡ reach_as k u v
   exactly_answered k u v f =
       let one = farthest_unique _ _ at _ _ _ _ _ _ found f in reach_answered file ok at h ∙ rw (one.0, one.1, one.2)
 

@@ -1,21 +1,16 @@
 -- Demand 1: one law on a list of questions, at every call.
 -- Assumes nothing.
+use Rattle.std.specs.Prelude.{Ok, Err}
 use Prim.Native.Nat.{ℕ}
 use mathlib.Core.{Bool.true, Bool.false, Bool.cond, Path.◌≡◌, Path.refl, Path.sym, Path.ap, Path.◌∙◌, Logic.⊎_elim, List.List, List.[]}
 use mathlib.Core.{List.◌∷◌}
 use native.Mathlib.Omega.{arith}
 use Rattle.sequences.proofs.Tests.{truth}
 use Rattle.interval_graph.specs.Numbers.{Outcome, apart, no_chain, outcome, short_outcome}
-use Rattle.refusals.specs.declared.Refusal.{Refusal}
-use Rattle.refusals.specs.declared.Asked.TheVariants as Asked
+use Rattle.refusals.specs.declared.refusal.Refusal.{Refusal}
 use Rattle.refusals.specs.Question.{Question, first_no, asked_of}
 use Rattle.refusals.proofs.Questions.{first_yes, first_no_lem}
-use Rattle.plan.specs.declared.questions.Validation.TheVariants as Validation
 use Rattle.plan.specs.Validation.{validate_answer_of}
-use Rattle.tag_bytes.specs.declared.reader.TagRead.TheVariants as TagRead
-use Rattle.tag_bytes.specs.declared.reader.ShortRead.TheVariants as ShortRead
-use Rattle.tag_bytes.specs.declared.writer.WriteAnswer.TheVariants as WriteAnswer
-use Rattle.tag_bytes.specs.declared.tag_file.LookupAnswer.TheVariants as LookupAnswer
 use Rattle.tag.specs.declared.pairs.PairAnswer.TheVariants as PairAnswer
 use Rattle.tag_bytes.specs.Fields.{tag_of, numbers, short_length, short_tag_of, short_numbers}
 use Rattle.tag_bytes.specs.Reading.{read_answer_of, short_read_answer_of}
@@ -24,24 +19,16 @@ use Rattle.tag_bytes.specs.TagFile.{part_of, tag_part, lookup_answer_of}
 use Rattle.tag_bytes.proofs.TagFile.{part_refused}
 use Rattle.tag.specs.Pairing.{answer_of, pair_answer_of, pair_at_answer_of}
 use Rattle.short_tag.specs.ShortPairing.{short_pair_answer_of, short_pair_at_answer_of}
-use Rattle.page.specs.declared.PageAnswer.TheVariants as PageAnswer
 use Rattle.page.specs.Page.{query_questions, page_answer_of, if_filled, after_page}
 use Rattle.page.proofs.Filled.{query_asked}
-use Rattle.numbering.specs.declared.answers.BuildAnswer.TheVariants as BuildAnswer
-use Rattle.reaching.specs.declared.answers.ReachAnswer.TheVariants as ReachAnswer
-use Rattle.minutes.specs.declared.answers.TableAnswer.TheVariants as TableAnswer
 use Rattle.numbering.specs.Numbering.{numbers_answer_of, after_build}
 use Rattle.tree.specs.Build.{build_answer_of, tags_answer_of, after_tags}
 use Rattle.minutes.specs.SingleTable.{table_answer_of, after_table}
 use Rattle.minutes.specs.EvenTable.{even_table_answer_of}
 use Rattle.even_tags.specs.ShortTags.{short_tags_answer_of, after_short_tags}
 use Rattle.changing.specs.Questions.{change_answer_of, after_change}
-use Rattle.overlap.specs.declared.margins.MarginAnswer.TheVariants as MarginAnswer
 use Rattle.overlap.specs.Margin.{margin_answer_of}
 use Rattle.reaching.specs.Reach.{reach_in, reach_of, reach_answer_of}
-use Rattle.path.specs.declared.answers.ChainAnswer.TheVariants as ChainAnswer
-use Rattle.neighbouring.specs.declared.neighbourhood.NeighboursAnswer.TheVariants as NeighboursAnswer
-use Rattle.sameness.specs.declared.SameAnswer.TheVariants as SameAnswer
 use Rattle.path.specs.Chain.{chain_between, chain_found, chain_answer_of, after_chain}
 use Rattle.neighbouring.specs.Neighbours.{neighbours_answer_of, after_neighbours}
 use Rattle.sameness.specs.Sameness.{same_overlap, same_answer_of}
@@ -72,12 +59,12 @@ unfolding answer_of
 outcome_answered (apart k) r e = let z : ◌≡◌ {A = ℕ} 0 1 = cc in omega arith
 outcome_answered no_chain r e = let z : ◌≡◌ {A = ℕ} 0 1 = cc in omega arith
 
-chain_found_lem : (l : List ℕ) (r : Refusal) → chain_found l ≡ ChainAnswer.Refused r → ⊥
+chain_found_lem : (l : List ℕ) (r : Refusal) → chain_found l ≡ Err r → ⊥
 unfolding chain_found
 chain_found_lem [] r e = let z : ◌≡◌ {A = ℕ} 0 1 = cc in omega arith
 chain_found_lem (x ∷ l) r e = let z : ◌≡◌ {A = ℕ} 0 1 = cc in omega arith
 
-same_found : (b : mathlib.Core.Bool.Bool) (r : Refusal) → cond b SameAnswer.Same SameAnswer.Different ≡ SameAnswer.Refused r → ⊥
+same_found : (b : mathlib.Core.Bool.Bool) (r : Refusal) → cond b Ok true Ok false ≡ Err r → ⊥
 same_found true r e = let z : ◌≡◌ {A = ℕ} 0 1 = cc in omega arith
 same_found false r e = let z : ◌≡◌ {A = ℕ} 0 1 = cc in omega arith
 
@@ -93,35 +80,35 @@ unfolding validate_answer_of numbers_answer_of build_answer_of tags_answer_of ta
     after_short_write page_answer_of if_filled after_page query_questions change_answer_of after_change margin_answer_of asked_of
 demand_1 =
     record {
-      validating = λ file. refuses Validation.Refused _ (λ r s e. cc) (λ r e. let z : ◌≡◌ {A = ℕ} 0 1 = cc in omega arith) _;
-      building = λ file p c d r l t. refuses BuildAnswer.Refused _ (λ r s e. cc) (λ r e. let z : ◌≡◌ {A = ℕ} 0 1 = cc in omega arith) _;
-      tagging = λ file room. refuses BuildAnswer.Refused _ (λ r s e. cc) (λ r e. let z : ◌≡◌ {A = ℕ} 0 1 = cc in omega arith) _;
-      tabling = λ file room. refuses TableAnswer.Refused _ (λ r s e. cc) (λ r e. let z : ◌≡◌ {A = ℕ} 0 1 = cc in omega arith) _;
-      numbering = λ file room. refuses BuildAnswer.Refused _ (λ r s e. cc) (λ r e. let z : ◌≡◌ {A = ℕ} 0 1 = cc in omega arith) _;
-      reaching = λ file at. refuses ReachAnswer.Refused _ (λ r s e. cc) (λ r e. let z : ◌≡◌ {A = ℕ} 0 1 = cc in omega arith) _;
-      chaining = λ file first second room. refuses ChainAnswer.Refused _ (λ r s e. cc) (chain_found_lem (chain_between file first second)) _;
-      neighbouring = λ file at room. refuses NeighboursAnswer.Refused _ (λ r s e. cc) (λ r e. let z : ◌≡◌ {A = ℕ} 0 1 = cc in omega arith) _;
-      margining = λ file first second. refuses MarginAnswer.Refused _ (λ r s e. cc) (λ r e. let z : ◌≡◌ {A = ℕ} 0 1 = cc in omega arith) _;
-      changing = λ file c changed tags. refuses BuildAnswer.Refused _ (λ r s e. cc) (λ r e. let z : ◌≡◌ {A = ℕ} 0 1 = cc in omega arith) _;
-      comparing = λ first second. refuses SameAnswer.Refused _ (λ r s e. cc) (same_found (same_overlap first second)) _;
-      reading = λ bytes. refuses TagRead.Refused _ (λ r s e. cc) (λ r e. let z : ◌≡◌ {A = ℕ} 0 1 = cc in omega arith) _;
-      writing = λ n out. refuses WriteAnswer.Refused _ (λ r s e. cc) (λ r e. let z : ◌≡◌ {A = ℕ} 0 1 = cc in omega arith) _;
-      looking_up = λ tags at. refuses LookupAnswer.Refused _ (λ r s e. cc) (λ r e. let z : ◌≡◌ {A = ℕ} 0 1 = cc in omega arith) _;
+      validating = λ file. refuses Err _ (λ r s e. cc) (λ r e. let z : ◌≡◌ {A = ℕ} 0 1 = cc in omega arith) _;
+      building = λ file p c d r l t. refuses Err _ (λ r s e. cc) (λ r e. let z : ◌≡◌ {A = ℕ} 0 1 = cc in omega arith) _;
+      tagging = λ file room. refuses Err _ (λ r s e. cc) (λ r e. let z : ◌≡◌ {A = ℕ} 0 1 = cc in omega arith) _;
+      tabling = λ file room. refuses Err _ (λ r s e. cc) (λ r e. let z : ◌≡◌ {A = ℕ} 0 1 = cc in omega arith) _;
+      numbering = λ file room. refuses Err _ (λ r s e. cc) (λ r e. let z : ◌≡◌ {A = ℕ} 0 1 = cc in omega arith) _;
+      reaching = λ file at. refuses Err _ (λ r s e. cc) (λ r e. let z : ◌≡◌ {A = ℕ} 0 1 = cc in omega arith) _;
+      chaining = λ file first second room. refuses Err _ (λ r s e. cc) (chain_found_lem (chain_between file first second)) _;
+      neighbouring = λ file at room. refuses Err _ (λ r s e. cc) (λ r e. let z : ◌≡◌ {A = ℕ} 0 1 = cc in omega arith) _;
+      margining = λ file first second. refuses Err _ (λ r s e. cc) (λ r e. let z : ◌≡◌ {A = ℕ} 0 1 = cc in omega arith) _;
+      changing = λ file c changed tags. refuses Err _ (λ r s e. cc) (λ r e. let z : ◌≡◌ {A = ℕ} 0 1 = cc in omega arith) _;
+      comparing = λ first second. refuses Err _ (λ r s e. cc) (same_found (same_overlap first second)) _;
+      reading = λ bytes. refuses Err _ (λ r s e. cc) (λ r e. let z : ◌≡◌ {A = ℕ} 0 1 = cc in omega arith) _;
+      writing = λ n out. refuses Err _ (λ r s e. cc) (λ r e. let z : ◌≡◌ {A = ℕ} 0 1 = cc in omega arith) _;
+      looking_up = λ tags at. refuses Err _ (λ r s e. cc) (λ r e. let z : ◌≡◌ {A = ℕ} 0 1 = cc in omega arith) _;
       pairing = λ first second. refuses PairAnswer.Refused _ (λ r s e. cc) (outcome_answered (outcome (numbers (tag_of first)) (numbers (tag_of second)))) _;
       pairing_at = λ tags first second. refuses PairAnswer.Refused _ (λ r s e. cc)
           (outcome_answered (outcome (numbers (tag_of (tag_part tags first))) (numbers (tag_of (tag_part tags second))))) _;
-      short_tagging = λ file room. refuses BuildAnswer.Refused _ (λ r s e. cc) (λ r e. let z : ◌≡◌ {A = ℕ} 0 1 = cc in omega arith) _;
-      even_tabling = λ file room. refuses TableAnswer.Refused _ (λ r s e. cc) (λ r e. let z : ◌≡◌ {A = ℕ} 0 1 = cc in omega arith) _;
-      short_reading = λ bytes. refuses ShortRead.Refused _ (λ r s e. cc) (λ r e. let z : ◌≡◌ {A = ℕ} 0 1 = cc in omega arith) _;
-      short_writing = λ n out. refuses WriteAnswer.Refused _ (λ r s e. cc) (λ r e. let z : ◌≡◌ {A = ℕ} 0 1 = cc in omega arith) _;
+      short_tagging = λ file room. refuses Err _ (λ r s e. cc) (λ r e. let z : ◌≡◌ {A = ℕ} 0 1 = cc in omega arith) _;
+      even_tabling = λ file room. refuses Err _ (λ r s e. cc) (λ r e. let z : ◌≡◌ {A = ℕ} 0 1 = cc in omega arith) _;
+      short_reading = λ bytes. refuses Err _ (λ r s e. cc) (λ r e. let z : ◌≡◌ {A = ℕ} 0 1 = cc in omega arith) _;
+      short_writing = λ n out. refuses Err _ (λ r s e. cc) (λ r e. let z : ◌≡◌ {A = ℕ} 0 1 = cc in omega arith) _;
       short_pairing = λ first second. refuses PairAnswer.Refused _ (λ r s e. cc)
           (outcome_answered (short_outcome (short_numbers (short_tag_of first)) (short_numbers (short_tag_of second)))) _;
       short_pairing_at = λ tags first second. refuses PairAnswer.Refused _ (λ r s e. cc) (outcome_answered (short_outcome
           (short_numbers (short_tag_of (part_of short_length tags first))) (short_numbers (short_tag_of (part_of short_length tags second))))) _;
-      paging = λ tags. refuses PageAnswer.Refused _ (λ r s e. cc) (λ r e. let z : ◌≡◌ {A = ℕ} 0 1 = cc in omega arith) _;
+      paging = λ tags. refuses Err _ (λ r s e. cc) (λ r e. let z : ◌≡◌ {A = ℕ} 0 1 = cc in omega arith) _;
       querying = λ tags first second. refuses_as (sym (query_asked tags first second)) (refuses PairAnswer.Refused _ (λ r s e. cc)
           (outcome_answered (outcome (numbers (tag_of (tag_part tags first))) (numbers (tag_of (tag_part tags second))))) _);
-      asking = λ questions. refuses Asked.Refused _ (λ r s e. cc) (λ r e. let z : ◌≡◌ {A = ℕ} 0 1 = cc in omega arith) questions;
+      asking = λ questions. refuses Err _ (λ r s e. cc) (λ r e. let z : ◌≡◌ {A = ℕ} 0 1 = cc in omega arith) questions;
       build_untouched = λ r f before. refl;
       tags_untouched = λ r f before. refl;
       short_tags_untouched = λ r f before. refl;

@@ -1,5 +1,6 @@
 -- What the call that runs everything needs: the tag file in a table that holds any plan's, and the answer from two tags of it.
 -- Assumes nothing.
+use Rattle.std.specs.Prelude.{Err, Result}
 use Prim.Native.Nat.{ℕ, ◌*◌, ◌≤◌, ◌<◌}
 use mathlib.Core.{Path.◌≡◌, Path.refl, Path.sym, Path.◌∙◌, List.List}
 use native.Mathlib.Omega.{arith}
@@ -7,13 +8,13 @@ use lib.ListN.{take}
 use borrow.Author.Tests.{le-leb, lt-ltb}
 use Rattle.sequences.specs.Table.{overwritten}
 use Rattle.sequences.proofs.Table.{take_overwritten}
-use Rattle.refusals.specs.declared.Refusal.{Refusal}
+use Rattle.refusals.specs.declared.refusal.Refusal.{Refusal}
 use Rattle.refusals.specs.Question.{question, from, first_no, position_question, position_questions, room_question}
-use Rattle.plan.specs.declared.questions.Validation.{Validation}
+use Rattle.plan.specs.declared.questions.Accepted.{Accepted}
 use Rattle.plan.specs.File.{plan_number, window_count}
 use Rattle.plan.specs.Validation.{greatest_count, AcceptedPlan, validate_answer_of}
 use Rattle.plan.specs.AcceptedWindows.{AcceptedWindows}
-use Rattle.plan.proofs.Accepted.{accepted_validated}
+use Rattle.plan.proofs.Acceptance.{accepted_validated}
 use Rattle.plan.proofs.Calls.{plan_refused, plan_accepted, plan_first}
 use Rattle.plan.proofs.Counted.{windows_few, validated_windows}
 use Rattle.tag.specs.declared.pairs.PairAnswer.{PairAnswer}
@@ -22,37 +23,36 @@ use Rattle.tag_bytes.specs.TagFile.{tag_file}
 use Rattle.tag.specs.Pairing.{pair_answer_of, pair_at_answer_of}
 use Rattle.tag_bytes.proofs.TagFile.{length-tag_file}
 use Rattle.tag.proofs.Pairing.{pair_at_tag_file}
-use Rattle.numbering.specs.declared.answers.BuildAnswer.{BuildAnswer}
-use Rattle.numbering.specs.declared.answers.BuildAnswer.TheVariants.{Built, Refused}
+use Rattle.numbering.specs.declared.filling.Built as numbering
 use Rattle.numbering.specs.Tables.{component_count, numbers_at}
 use Rattle.tree.specs.Build.{tags_questions, tags_answer_of, after_tags}
 use Rattle.demands.specs.EndToEnd.{tag_at, pair_from_plan}
 
 -- A table that holds any plan's tag file is answered as the validation is: its refusal, or the plan's own numbers.
-abbrev validated : List ℕ → Validation → BuildAnswer
-validated file (Validation.Accepted plan windows) = Built (plan_number file) windows (component_count file)
-validated file (Validation.Refused refusal) = Refused refusal
+abbrev validated : List ℕ → Result Accepted Refusal → Result numbering.Built Refusal
+validated file (Ok said) = built_as (plan_number file) said.windows (component_count file)
+validated file (Err refusal) = Err refusal
 
 module _ (file : List ℕ) (room : ℕ) (enough : tag_length * greatest_count ≤ room) where
-  by_validation : (v : Validation) → v ≡ validate_answer_of file → tags_answer_of file room ≡ validated file v
+  by_validation : (v : Result Accepted Refusal) → v ≡ validate_answer_of file → tags_answer_of file room ≡ validated file v
   unfolding tags_answer_of tags_questions room_question question first_no
-  by_validation (Validation.Accepted plan windows) e =
-      let p = validated_windows file (Validation.Accepted plan windows) e plan windows refl in
+  by_validation (accepted_as plan windows) e =
+      let p = validated_windows file (accepted_as plan windows) e plan windows refl in
       plan_first file _ Refused _
       ∙ rw (← e, le-leb (tag_length * window_count file) room (omega (arith, windows_few p, p.counted)), p.counted)
-  by_validation (Validation.Refused refusal) e = plan_first file _ Refused _ ∙ rw (← e)
+  by_validation (Err refusal) e = plan_first file _ Refused _ ∙ rw (← e)
 
-  refused_by : (v : Validation) (refusal : Refusal) → Refused refusal ≡ validated file v → v ≡ Validation.Refused refusal
-  refused_by (Validation.Accepted plan windows) refusal e = let z : ◌≡◌ {A = ℕ} 0 1 = cc in absurd (omega arith)
-  refused_by (Validation.Refused other) refusal e = cc
+  refused_by : (v : Result Accepted Refusal) (refusal : Refusal) → Refused refusal ≡ validated file v → v ≡ Err refusal
+  refused_by (accepted_as plan windows) refusal e = let z : ◌≡◌ {A = ℕ} 0 1 = cc in absurd (omega arith)
+  refused_by (Err other) refusal e = cc
 
-  built_by : (v : Validation) (plan windows count : ℕ) → v ≡ validate_answer_of file → Built plan windows count ≡ validated file v → AcceptedWindows file windows
-  built_by (Validation.Accepted number windows') plan windows count e f =
+  built_by : (v : Result Accepted Refusal) (plan windows count : ℕ) → v ≡ validate_answer_of file → Built plan windows count ≡ validated file v → AcceptedWindows file windows
+  built_by (accepted_as number windows') plan windows count e f =
       let same : windows ≡ windows' = cc in
-      rw same (validated_windows file (Validation.Accepted number windows') e number windows' refl)
-  built_by (Validation.Refused refusal) plan windows count e f = let z : ◌≡◌ {A = ℕ} 0 1 = cc in absurd (omega arith)
+      rw same (validated_windows file (accepted_as number windows') e number windows' refl)
+  built_by (Err refusal) plan windows count e f = let z : ◌≡◌ {A = ℕ} 0 1 = cc in absurd (omega arith)
 
-  module _ (first second : ℕ) (answer : BuildAnswer) (answered : answer ≡ tags_answer_of file room) where
+  module _ (first second : ℕ) (answer : Result numbering.Built Refusal) (answered : answer ≡ tags_answer_of file room) where
     pub running_refused : (refusal : Refusal) → answer ≡ Refused refusal → PairAnswer.Refused refusal ≡ pair_from_plan file first second
     unfolding pair_from_plan
     running_refused refusal e =

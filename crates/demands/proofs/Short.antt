@@ -1,5 +1,6 @@
 -- Q-1: the theory of short tags at the overlap of an even plan, and plan 12, of which the two pairs do not answer alike.
 -- Assumes nothing.
+use Rattle.std.specs.Prelude.{Err}
 use Prim.Native.Nat.{ℕ, ◌*◌, ◌≤◌, ◌<◌}
 use mathlib.Core.{Path.◌≡◌, Path.refl, Path.sym, Path.ap, Path.◌∙◌, List.List, List.[]}
 use native.Mathlib.Omega.{arith}
@@ -25,7 +26,6 @@ use Rattle.tag.specs.Pairing.{compare_questions, answer_of, compared_by, pair_an
 use Rattle.short_tag.specs.ShortPairing.{short_pair_answer_of}
 use Rattle.tag.specs.declared.pairs.PairAnswer.TheVariants as PairAnswer
 use Rattle.short_tag.proofs.ShortPairing.{pair_short_bytes, short_pair_symmetric, short_at_found}
-use Rattle.numbering.specs.declared.answers.BuildAnswer.TheVariants as BuildAnswer
 use Rattle.numbering.specs.Tables.{component_count, numbers_at}
 use Rattle.even_tags.specs.ShortTags.{short_tags_questions, short_tags_answer_of, after_short_tags}
 use Rattle.demands.specs.EndToEnd.{tag_at}
@@ -77,11 +77,11 @@ needs_even =
 
 -- An even plan with room is answered so.
 all_written : (file : List ℕ) → AcceptedPlan file → EndsRise file → (t : ℕ) → short_length * window_count file ≤ t →
-    short_tags_answer_of file t ≡ BuildAnswer.Built (plan_number file) (window_count file) (component_count file)
+    short_tags_answer_of file t ≡ built_as (plan_number file) (window_count file) (component_count file)
 unfolding short_tags_answer_of short_tags_questions room_question question first_no
 all_written file ok rise t fits =
-    plan_passed file _ BuildAnswer.Refused _ ok ∙ (first_append (even_questions file) _ BuildAnswer.Refused _
-    ∙ (all_first (even_questions file) BuildAnswer.Refused _ (ends_even file rise) ∙ rw (le-leb (short_length * window_count file) t fits)))
+    plan_passed file _ Err _ ok ∙ (first_append (even_questions file) _ Err _
+    ∙ (all_first (even_questions file) Err _ (ends_even file rise) ∙ rw (le-leb (short_length * window_count file) t fits)))
 
 pub short_tags : ShortTags
 unfolding short_tag_at numbers_at after_short_tags

@@ -1,5 +1,6 @@
 -- Demand 2.
 -- Assumes nothing.
+use Rattle.std.specs.Prelude.{}
 use Prim.Native.Nat.{ℕ, ◌<◌}
 use mathlib.Core.{Bool.true, Path.◌≡◌, List.List}
 use native.Mathlib.Omega.{arith}
@@ -8,13 +9,14 @@ use Rattle.interval_graph.specs.Numbers.{numbers_of}
 use Rattle.interval_graph.proofs.Bounds.{numbers_small}
 use Rattle.plan.specs.File.{plan_number, window_count}
 use Rattle.plan.specs.Validation.{AcceptedPlan}
-use Rattle.plan.proofs.Accepted.{accepted_sound}
+use Rattle.plan.proofs.Acceptance.{accepted_sound}
 use Rattle.overlap.proofs.InOrder.{interval_order}
 use Rattle.tag_bytes.specs.Fields.{numbers, within_limit}
 use Rattle.tag_bytes.specs.Writing.{after_write}
 use Rattle.tag_bytes.proofs.Fields.{limit_within, length-tag_bytes}
 use Rattle.tag_bytes.proofs.Writing.{tag_bytes_read, written_reads_back, read_tag_bytes, read_accepted}
 use Rattle.tag_bytes.proofs.TagFile.{tag_file_lookup}
+use Rattle.numbering.specs.declared.filling.Built as numbering
 use Rattle.numbering.specs.declared.answers.BuildAnswer.{BuildAnswer}
 use Rattle.minutes.specs.Tables.{parent_of}
 use Rattle.numbering.specs.Tables.{component_of, depth_of, rank_of, last_rank_of, component_count, numbers_at}
@@ -32,7 +34,7 @@ window_within file ok v h =
     let few = (accepted_sound file ok).few in
     limit_within (numbers_at file v) (record { component = omega arith; depth = omega arith; rank = omega arith; last = omega arith })
 
-built : (file : List ℕ) (answer : BuildAnswer) → answer ≡ BuildAnswer.Built (plan_number file) (window_count file) (component_count file) → Built file answer
+built : (file : List ℕ) (answer : Result numbering.Built Refusal) → answer ≡ built_as (plan_number file) (window_count file) (component_count file) → Built file answer
 unfolding after_build after_tags parent_of component_of depth_of rank_of last_rank_of numbers_at
 built file answer e =
     record {

@@ -1,11 +1,11 @@
 -- Paper 01, "Calls on a plan": what it says of sameness, of what the call answers for accepted plans.
 -- Vocabulary: SameOverlap, EqualTags, SameAnswered.
+use Rattle.std.specs.Prelude.{Ok}
 use Rattle.std.specs.Prelude.{ℕ, ◌<◌, drop}
 use mathlib.Core.{Path.◌≡◌, Logic.◌↔◌, List.List}
 use Rattle.plan.specs.{File.window_count, Validation.AcceptedPlan}
 use Rattle.overlap.specs.Overlap.{overlaps}
 use Rattle.sameness.specs.Sameness.{same_answer_of}
-use Rattle.sameness.specs.declared.SameAnswer.TheVariants as SameAnswer
 use Rattle.demands.specs.EndToEnd.{tag_at}
 
 -- "they have equal n and the same pairs of positions overlap"
@@ -20,8 +20,8 @@ pub record EqualTags (first second : List ℕ) : Type 0 where
 
 -- "Two plans are the same when …; equal tags apart from the plan number say just that."
 pub record SameAnswered (first second : List ℕ) : Type 0 where
-  pub same : (same_answer_of first second ≡ SameAnswer.Same) ↔ SameOverlap first second
-  pub different : (same_answer_of first second ≡ SameAnswer.Different) ↔ (SameOverlap first second → ⊥)
+  pub same : (same_answer_of first second ≡ Ok true) ↔ SameOverlap first second
+  pub different : (same_answer_of first second ≡ Ok false) ↔ (SameOverlap first second → ⊥)
   pub tags : SameOverlap first second ↔ EqualTags first second
 
 abbrev pub Sameness : Type 0

@@ -2,19 +2,20 @@
 -- the least number of handovers; the chain from the plan has just that number and, at each step from the later window, the earliest
 -- window that any shortest chain has there; and "no chain" is said exactly when none joins them, from tags and plan alike.
 -- Vocabulary: Answered, tag_at, Demand3, pair_from_plan.
+use Rattle.std.specs.Prelude.{Ok, Some, None}
 use Rattle.std.specs.Prelude.{ℕ, suc, ◌<◌, max, length, take}
 use mathlib.Core.{Path.◌≡◌, Logic.◌↔◌, List.List, List.◌++◌}
 use Rattle.interval_graph.specs.Chain.{first_entry, handovers, Joined, LeastHandovers, EarliestShortest}
-use Rattle.refusals.specs.{declared.Refusal.Refusal, Question.first_no, Question.position_questions}
+use Rattle.refusals.specs.{declared.refusal.Refusal.Refusal, Question.first_no, Question.position_questions}
 use Rattle.plan.specs.{File.window_count, Validation.plan_questions, Validation.AcceptedPlan}
 use Rattle.overlap.specs.Overlap.{overlaps}
 use Rattle.tag_bytes.specs.TagFile.{tag_file, lookup_part}
 use Rattle.tag.specs.{declared.pairs.PairAnswer.PairAnswer, Pairing.pair_answer_of}
 use Rattle.numbering.specs.Tables.{numbers_at}
-use Rattle.path.specs.{declared.answers.ChainAnswer.ChainAnswer, Chain.chain_between, Chain.chain_answer_of, Chain.after_chain}
+use Rattle.path.specs.{Chain.chain_between, Chain.chain_answer_of, Chain.after_chain}
 
 -- What is answered of the windows u and v of a file: the answer from their tags, the answer of chain, and its table afterwards.
-pub record Answered (file : List ℕ) (u v : ℕ) (pair : PairAnswer) (chain : ChainAnswer) (out : List ℕ) : Type 0 where
+pub record Answered (file : List ℕ) (u v : ℕ) (pair : PairAnswer) (chain : Result (Option ℕ) Refusal) (out : List ℕ) : Type 0 where
   -- A number of handovers is answered exactly if it is the least: some chain has it, none has fewer.
   pub counted : (k : ℕ) → (pair ≡ PairAnswer.Handovers k) ↔ LeastHandovers (window_count file) (overlaps file) u v k
   -- Where a chain joins them, some number is answered.
@@ -22,16 +23,16 @@ pub record Answered (file : List ℕ) (u v : ℕ) (pair : PairAnswer) (chain : C
   -- Two tags of one plan are never refused.
   pub not_refused : (r : Refusal) → pair ≡ PairAnswer.Refused r → ⊥
   -- The chain is given in every table that holds it. It has that number,
-  pub chain_given : (k : ℕ) → pair ≡ PairAnswer.Handovers k → k < length out → chain ≡ ChainAnswer.Chain (suc k)
+  pub chain_given : (k : ℕ) → pair ≡ PairAnswer.Handovers k → k < length out → chain ≡ Ok (Some (suc k))
   pub chain_counted :
-      (entries k : ℕ) → chain ≡ ChainAnswer.Chain entries → pair ≡ PairAnswer.Handovers k → handovers (take entries out) ≡ k
+      (entries k : ℕ) → chain ≡ Ok (Some entries) → pair ≡ PairAnswer.Handovers k → handovers (take entries out) ≡ k
   -- begins with the later window, and has at each step the earliest window that any shortest chain has there.
-  pub chain_from_later : (entries : ℕ) → chain ≡ ChainAnswer.Chain entries → first_entry (take entries out) ≡ max u v
+  pub chain_from_later : (entries : ℕ) → chain ≡ Ok (Some entries) → first_entry (take entries out) ≡ max u v
   pub chain_earliest :
-      (entries : ℕ) → chain ≡ ChainAnswer.Chain entries → EarliestShortest (window_count file) (overlaps file) u v (take entries out)
+      (entries : ℕ) → chain ≡ Ok (Some entries) → EarliestShortest (window_count file) (overlaps file) u v (take entries out)
   -- "No chain" exactly when none joins them.
   pub tags_apart : (pair ≡ PairAnswer.NoChain) ↔ (Joined (window_count file) (overlaps file) u v → ⊥)
-  pub plan_apart : (chain ≡ ChainAnswer.NoChain) ↔ (Joined (window_count file) (overlaps file) u v → ⊥)
+  pub plan_apart : (chain ≡ Ok None) ↔ (Joined (window_count file) (overlaps file) u v → ⊥)
 
 -- "In demand 3 the tag of a window is the five numbers that build's tag file holds for its position, written as ten bytes":
 -- the part of build's tag file that a lookup of the position hands back.

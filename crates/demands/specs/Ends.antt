@@ -1,18 +1,17 @@
 -- Paper 02, Q-8: plans in seconds. "The unit is agreed outside the file": no definition has one, and what paper 01 calls a minute is
 -- one of the plan's units of time.
 -- Vocabulary: span, EndAsked, EndsAsked, EndsFit, LastsByEnds, MarginsWithin, AddedAsked, AddedEnds, alone, late, LateCases.
+use Rattle.std.specs.Prelude.{Ok, Err, Result}
 use Rattle.std.specs.Prelude.{ℕ, ◌+◌, ◌≤◌, ◌<◌, pos, neg_ℤ, ◌≤ℤ◌}
 use mathlib.Core.{Bool.true, Bool.false, Path.◌≡◌, Logic.◌↔◌, Logic.◌≢◌, List.List, List.[], List.◌∷◌}
 use Rattle.refusals.specs.Question.{refusal_by}
 use Rattle.plan.specs.declared.windows.Window.{Window}
-use Rattle.plan.specs.declared.questions.Validation.{Validation}
+use Rattle.plan.specs.declared.questions.Accepted.{Accepted}
 use Rattle.plan.specs.File.{plan_number, window_count, minimum_handover, window_at, end_of, file_of}
 use Rattle.plan.specs.Validation.{minimum_passes, AcceptedPlan, validate_answer_of}
 use Rattle.overlap.specs.Overlap.{overlaps}
 use Rattle.overlap.specs.Margin.{margin_between, margin_answer_of}
-use Rattle.overlap.specs.declared.margins.MarginAnswer.TheVariants as MarginAnswer
 use Rattle.minutes.specs.Tables.{last_of}
-use Rattle.numbering.specs.declared.answers.BuildAnswer.TheVariants as BuildAnswer
 use Rattle.changing.specs.Change.{adding}
 use Rattle.changing.specs.Questions.{AcceptedChange, change_answer_of}
 
@@ -25,7 +24,7 @@ pub record EndAsked (plan minimum offset length : ℕ) : Type 0 where
   pub passes : AcceptedPlan (file_of plan minimum (span offset length ∷ [])) ↔ (offset + length ≤ 4294967295)
   pub refused :
       4294967295 < offset + length →
-      validate_answer_of (file_of plan minimum (span offset length ∷ [])) ≡ Validation.Refused (refusal_by 5)
+      validate_answer_of (file_of plan minimum (span offset length ∷ [])) ≡ Err (refusal_by 5)
 
 abbrev pub EndsAsked : Type 0
 EndsAsked =
@@ -44,8 +43,8 @@ pub record MarginsWithin : Type 0 where
       (file : List ℕ) → AcceptedPlan file → (u v : ℕ) → u < window_count file → v < window_count file →
       margin_between file u v ≤ℤ pos 4294967295
   pub least_reached :
-      margin_answer_of (file_of 0 1 (span 0 1 ∷ span 4294967294 1 ∷ [])) 0 1 ≡ MarginAnswer.Margin (neg_ℤ (pos 4294967293))
-  pub most_reached : margin_answer_of (file_of 0 1 (span 0 4294967295 ∷ [])) 0 0 ≡ MarginAnswer.Margin (pos 4294967295)
+      margin_answer_of (file_of 0 1 (span 0 1 ∷ span 4294967294 1 ∷ [])) 0 1 ≡ Ok (neg_ℤ (pos 4294967293))
+  pub most_reached : margin_answer_of (file_of 0 1 (span 0 4294967295 ∷ [])) 0 0 ≡ Ok (pos 4294967295)
 
 -- "search": the last that is found goes by true sums, wherever the windows lie: a later window stands no further than the last of u
 -- exactly if its offset and the minimum together are at most the end of u.
@@ -60,7 +59,7 @@ pub record AddedAsked (file : List ℕ) (plan offset length : ℕ) : Type 0 wher
   pub passes : AcceptedChange file (adding plan (span offset length)) ↔ (offset + length ≤ 4294967295)
   pub refused :
       4294967295 < offset + length → (changed tags : ℕ) →
-      change_answer_of file (adding plan (span offset length)) changed tags ≡ BuildAnswer.Refused (refusal_by 5)
+      change_answer_of file (adding plan (span offset length)) changed tags ≡ Err (refusal_by 5)
 
 abbrev pub AddedEnds : Type 0
 AddedEnds =
@@ -68,7 +67,7 @@ AddedEnds =
     minimum_handover file ≤ length → AddedAsked file plan offset length
 
 -- "The old edge case at 10,000,001 passes, and the sum 4,294,967,296 is 5."
-abbrev alone : (offset length : ℕ) → Validation
+abbrev alone : (offset length : ℕ) → Result Accepted Refusal
 alone offset length = validate_answer_of (file_of 0 1 (span offset length ∷ []))
 
 -- Two windows of which the later ends at 4,294,967,295.
@@ -76,12 +75,12 @@ abbrev late : (minimum : ℕ) → Window → Window → List ℕ
 late minimum u v = file_of 0 minimum (u ∷ v ∷ [])
 
 pub record LateCases : Type 0 where
-  pub old_edge : alone 10000000 1 ≡ Validation.Accepted 0 1
-  pub edge : alone 4294967294 1 ≡ Validation.Accepted 0 1
-  pub past : alone 4294967295 1 ≡ Validation.Refused (refusal_by 5)
+  pub old_edge : alone 10000000 1 ≡ accepted_as 0 1
+  pub edge : alone 4294967294 1 ≡ accepted_as 0 1
+  pub past : alone 4294967295 1 ≡ Err (refusal_by 5)
   -- Paper 01's trap: "Adding offset and length in 32 bits: 4,294,967,295 twice must give 5."
-  pub wrapped : alone 4294967295 6 ≡ Validation.Refused (refusal_by 5)
-  pub twice : alone 4294967295 4294967295 ≡ Validation.Refused (refusal_by 5)
+  pub wrapped : alone 4294967295 6 ≡ Err (refusal_by 5)
+  pub twice : alone 4294967295 4294967295 ≡ Err (refusal_by 5)
   -- The last unit of the line overlaps a window that ends with it, and touches one that ends where it begins.
   pub overlapping : overlaps (late 1 (span 4294967290 5) (span 4294967294 1)) 0 1 ≡ true
   pub touching : overlaps (late 1 (span 4294967290 4) (span 4294967294 1)) 0 1 ≡ false

@@ -1,12 +1,12 @@
 -- Paper 02, Q-7: margin between two windows.
 -- Vocabulary: EndsBefore, MarginTold, Margins, MarginTested.
+use Rattle.std.specs.Prelude.{Ok}
 use Rattle.std.specs.Prelude.{ℕ, ◌+◌, ◌≤◌, ◌<◌, pos, neg_ℤ, ◌-ℤ◌, ◌≤ℤ◌}
 use mathlib.Core.{Bool.true, Path.◌≡◌, Logic.◌⊎◌, Logic.◌↔◌, Logic.◌≢◌, List.List}
 use Rattle.plan.specs.declared.windows.Window.{Window}
 use Rattle.plan.specs.{File.window_count, File.minimum_handover, File.window_at, File.end_of, Validation.AcceptedPlan}
 use Rattle.overlap.specs.Overlap.{shared_minutes, overlaps, margin_reaches}
 use Rattle.overlap.specs.Margin.{margin_between, margin_answer_of}
-use Rattle.overlap.specs.declared.margins.MarginAnswer.TheVariants as MarginAnswer
 
 -- One window ends so many minutes before another begins; with 0 they touch.
 abbrev pub EndsBefore : ℕ → Window → Window → Type 0
@@ -15,7 +15,7 @@ EndsBefore gap u v = end_of u + gap ≡ v.offset
 -- What the margin says of the windows at u and v. (As whole numbers, m is `pos m` and −m is `neg_ℤ (pos m)`.)
 pub record MarginTold (file : List ℕ) (u v : ℕ) : Type 0 where
   -- "From a plan and two positions give the smaller end less the greater offset":
-  pub given : margin_answer_of file u v ≡ MarginAnswer.Margin (margin_between file u v)
+  pub given : margin_answer_of file u v ≡ Ok (margin_between file u v)
   -- "positive minutes shared", the number of those that both cover;
   pub shared : (m : ℕ) → 1 ≤ m → (margin_between file u v ≡ pos m) ↔ (shared_minutes (window_at file u) (window_at file v) ≡ m)
   -- "0 where they touch, and a negative number for the gap."

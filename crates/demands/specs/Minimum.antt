@@ -1,6 +1,7 @@
 -- Paper 02, Q-2: a handover takes time.
 -- Vocabulary: Overlapping, MinimumOverlaps, AsBefore, MinimumOne, SharesAlike, SameMinimumOne, OldRefused, OutOfOrder, NeedsLength, three,
 -- equals, minimum_cases, MinimumCasesHold.
+use Rattle.std.specs.Prelude.{Ok}
 use Rattle.std.specs.Prelude.{ℕ, ◌+◌, ◌*◌, ◌≤◌, ◌<◌, length}
 use mathlib.Core.{Bool.true, Path.◌≡◌, Logic.◌↔◌, Logic.◌≢◌, List.List, List.[], List.◌∷◌, List.Memᴰ}
 use Rattle.sequences.specs.Search.{passing}
@@ -16,7 +17,6 @@ use Rattle.numbering.specs.Tables.{component_of, depth_of, rank_of, last_rank_of
 use Rattle.path.specs.Chain.{chain_between}
 use Rattle.neighbouring.specs.Neighbours.{neighbours_of}
 use Rattle.sameness.specs.Sameness.{same_answer_of}
-use Rattle.sameness.specs.declared.SameAnswer.TheVariants as SameAnswer
 use Rattle.demands.specs.Cases.{Case, CaseHolds}
 
 -- "Two windows overlap when they share at least that many minutes." In an accepted plan u before v do so exactly if the offset of v and
@@ -65,7 +65,7 @@ SharesAlike first second =
 abbrev pub SameMinimumOne : Type 0
 SameMinimumOne =
     (first second : List ℕ) → AcceptedPlan first → AcceptedPlan second → minimum_handover first ≡ 1 → minimum_handover second ≡ 1 →
-    (same_answer_of first second ≡ SameAnswer.Same) ↔ SharesAlike first second
+    (same_answer_of first second ≡ Ok true) ↔ SharesAlike first second
 
 -- A file with the header of before, of 4 bytes, is never taken for one with a minimum: n stands in the same bytes, and of its two lengths
 -- neither is the other.

@@ -1,9 +1,10 @@
 -- Paper 02, Q-4: a page of pairs.
 -- Vocabulary: page_over, RecordAnswered, PageAnswered, PageFilled.
+use Rattle.std.specs.Prelude.{Ok, Err}
 use Rattle.std.specs.Prelude.{ℕ, ◌<◌, length, get_or}
 use mathlib.Core.{Path.◌≡◌, Logic.◌↔◌, List.List, List.map}
 use Rattle.interval_graph.specs.Chain.{Joined, LeastHandovers}
-use Rattle.refusals.specs.declared.Refusal.{Refusal}
+use Rattle.refusals.specs.declared.refusal.Refusal.{Refusal}
 use Rattle.plan.specs.{File.window_count, Validation.AcceptedPlan}
 use Rattle.overlap.specs.Overlap.{overlaps}
 use Rattle.tag_bytes.specs.TagFile.{tag_file}
@@ -11,7 +12,6 @@ use Rattle.tag.specs.Pairing.{pair_at_answer_of}
 use Rattle.tag.specs.declared.pairs.PairAnswer.TheVariants as PairAnswer
 use Rattle.numbering.specs.Tables.{numbers_at}
 use Rattle.page.specs.{declared.Query.Query, Page.with_answer, Page.filled, Page.page_answer_of, Page.after_page}
-use Rattle.page.specs.declared.PageAnswer.TheVariants as PageAnswer
 
 -- The records after a page over a tag file.
 abbrev pub page_over : List ℕ → List Query → List Query
@@ -41,11 +41,11 @@ PageAnswered =
 pub record PageFilled : Type 0 where
   -- "Each record is filled": a page that is not refused is one pair call after another, with each record's own positions.
   pub one_by_one :
-      (tags : List ℕ) (queries : List Query) → page_answer_of tags ≡ PageAnswer.Filled →
+      (tags : List ℕ) (queries : List Query) → page_answer_of tags ≡ Ok tt →
       page_over tags queries ≡ map (λ query. with_answer query (pair_at_answer_of tags query.first query.second)) queries
   -- "A bad record … spoils no other": what a record holds afterwards goes by the record and the tag file alone,
   pub by_itself :
-      (tags : List ℕ) (queries : List Query) (i : ℕ) (none : Query) → page_answer_of tags ≡ PageAnswer.Filled → i < length queries →
+      (tags : List ℕ) (queries : List Query) (i : ℕ) (none : Query) → page_answer_of tags ≡ Ok tt → i < length queries →
       get_or (page_over tags queries) i none ≡ filled tags (get_or queries i none)
   -- and not by what stood in the place for its answer.
   pub old_unread :
@@ -53,5 +53,5 @@ pub record PageFilled : Type 0 where
   -- As many records as before; "a tag file of wrong length … fills nothing"; and filling twice is filling once.
   pub as_many : (tags : List ℕ) (queries : List Query) → length (page_over tags queries) ≡ length queries
   pub refused_whole :
-      (tags : List ℕ) (queries : List Query) (r : Refusal) → page_answer_of tags ≡ PageAnswer.Refused r → page_over tags queries ≡ queries
+      (tags : List ℕ) (queries : List Query) (r : Refusal) → page_answer_of tags ≡ Err r → page_over tags queries ≡ queries
   pub twice_once : (tags : List ℕ) (queries : List Query) → page_over tags (page_over tags queries) ≡ page_over tags queries

@@ -1,5 +1,6 @@
 -- Paper 02, Q-5: reach exactly.
 -- Vocabulary: ReachAnswered, ReachExact, Components, ReachBounds.
+use Rattle.std.specs.Prelude.{}
 use Rattle.std.specs.Prelude.{ℕ, ◌<◌, ◌≤◌}
 use mathlib.Core.{Path.◌≡◌, Logic.◌↔◌, List.List}
 use Rattle.interval_graph.specs.{Chain.Joined, Chain.LeastHandovers, Tree.component, Reach.Farthest, Reach.reach_bound}
@@ -8,21 +9,20 @@ use Rattle.overlap.specs.Overlap.{overlaps}
 use Rattle.tag.specs.Pairing.{pair_answer_of}
 use Rattle.tag.specs.declared.pairs.PairAnswer.TheVariants as PairAnswer
 use Rattle.reaching.specs.Reach.{reach_answer_of}
-use Rattle.reaching.specs.declared.answers.ReachAnswer.TheVariants as ReachAnswer
 use Rattle.demands.specs.EndToEnd.{tag_at}
 
 -- What is answered of the component of the window `at`.
 pub record ReachAnswered (file : List ℕ) (at : ℕ) : Type 0 where
   -- "Reach becomes the greatest number of handovers between two windows of the component. It comes with the first pair that has it, by
   -- smaller position and then by larger." A number and a pair are answered exactly if they are those; and some are.
-  pub exact : (k u v : ℕ) → (reach_answer_of file at ≡ ReachAnswer.Reach k u v) ↔ Farthest (window_count file) (overlaps file) at k u v
-  pub given : (k : ℕ) × (u : ℕ) × (v : ℕ) × (reach_answer_of file at ≡ ReachAnswer.Reach k u v)
+  pub exact : (k u v : ℕ) → (reach_answer_of file at ≡ reach_as k u v) ↔ Farthest (window_count file) (overlaps file) at k u v
+  pub given : (k : ℕ) × (u : ℕ) × (v : ℕ) × (reach_answer_of file at ≡ reach_as k u v)
   -- "A component of one window has reach 0 and its window twice."
   pub alone :
-      ((w : ℕ) → Joined (window_count file) (overlaps file) at w → w ≡ at) → reach_answer_of file at ≡ ReachAnswer.Reach 0 at at
+      ((w : ℕ) → Joined (window_count file) (overlaps file) at w → w ≡ at) → reach_answer_of file at ≡ reach_as 0 at at
   -- The pair's two tags say the same number.
   pub from_tags :
-      (k u v : ℕ) → reach_answer_of file at ≡ ReachAnswer.Reach k u v →
+      (k u v : ℕ) → reach_answer_of file at ≡ reach_as k u v →
       pair_answer_of (tag_at file u) (tag_at file v) ≡ PairAnswer.Handovers k
 
 abbrev pub ReachExact : Type 0

@@ -1,5 +1,6 @@
 -- Paper 02, Q-1: short tags of even plans.
 -- Vocabulary: EndsRise, short_tag_at, ShortAnswered, ShortPairs, ShortDiffers, NeedsEven, ShortTags.
+use Rattle.std.specs.Prelude.{Ok}
 use Rattle.std.specs.Prelude.{ℕ, suc, ◌*◌, ◌≤◌, ◌<◌, length, get_or, take, drop}
 use mathlib.Core.{Path.◌≡◌, Logic.◌↔◌, List.List, List.◌++◌}
 use Rattle.sequences.specs.Table.{overwritten}
@@ -7,11 +8,9 @@ use Rattle.interval_graph.specs.{Chain.Joined, Chain.LeastHandovers, Numbers.num
 use Rattle.plan.specs.File.{plan_number, window_count, window_at, end_of}
 use Rattle.overlap.specs.Overlap.{overlaps}
 use Rattle.plan.specs.{Validation.AcceptedPlan, Even.EvenPlan}
-use Rattle.tag_bytes.specs.{declared.reader.ShortTag.ShortTag, Fields.short_length, Fields.short_tag_with}
+use Rattle.tag_bytes.specs.{declared.short_tag.ShortTag.ShortTag, Fields.short_length, Fields.short_tag_with}
 use Rattle.tag_bytes.specs.{Reading.short_read_answer_of, Writing.short_write_answer_of, Writing.after_short_write}
 use Rattle.tag_bytes.specs.TagFile.{part_of, short_tag_file}
-use Rattle.tag_bytes.specs.declared.reader.ShortRead.TheVariants as ShortRead
-use Rattle.tag_bytes.specs.declared.writer.WriteAnswer.TheVariants as WriteAnswer
 use Rattle.tag.specs.Pairing.{pair_answer_of}
 use Rattle.short_tag.specs.ShortPairing.{short_pair_answer_of, short_pair_at_answer_of}
 use Rattle.tag.specs.declared.pairs.PairAnswer.TheVariants as PairAnswer
@@ -68,16 +67,16 @@ pub record ShortTags : Type 0 where
   pub tags :
       (file : List ℕ) → AcceptedPlan file → (v : ℕ) → v < window_count file →
       short_read_answer_of (short_tag_at file v)
-      ≡ ShortRead.Valid (short_tag_with (numbers_of (window_count file) (overlaps file) (plan_number file) v))
+      ≡ Ok (short_tag_with (numbers_of (window_count file) (overlaps file) (plan_number file) v))
   -- A written short tag reads back as the same four numbers, and eight bytes that read as one are written back the same.
   pub reads_back :
-      (t : ShortTag) (out : List ℕ) → short_write_answer_of t out ≡ WriteAnswer.Written →
-      short_read_answer_of (take short_length (after_short_write (short_write_answer_of t out) t out)) ≡ ShortRead.Valid t
+      (t : ShortTag) (out : List ℕ) → short_write_answer_of t out ≡ Ok tt →
+      short_read_answer_of (take short_length (after_short_write (short_write_answer_of t out) t out)) ≡ Ok t
   pub writes_back :
       (bytes : List ℕ) (t : ShortTag) (out : List ℕ) → ((i : ℕ) → get_or bytes i 0 < 256) →
-      short_read_answer_of bytes ≡ ShortRead.Valid t → short_length ≤ length out →
+      short_read_answer_of bytes ≡ Ok t → short_length ≤ length out →
       after_short_write (short_write_answer_of t out) t out ≡ bytes ++ drop short_length out
   -- Two short tags that can be read answer alike in either order, whatever plan they come from.
   pub either_order :
-      (first second : List ℕ) (a b : ShortTag) → short_read_answer_of first ≡ ShortRead.Valid a →
-      short_read_answer_of second ≡ ShortRead.Valid b → short_pair_answer_of first second ≡ short_pair_answer_of second first
+      (first second : List ℕ) (a b : ShortTag) → short_read_answer_of first ≡ Ok a →
+      short_read_answer_of second ≡ Ok b → short_pair_answer_of first second ≡ short_pair_answer_of second first

@@ -5,17 +5,17 @@ ghost use Rattle.plan.specs.Validation.{AcceptedPlan};
 ghost use Rattle.path.specs.Chain.{chain_between, chain_answer_of, after_chain};
 ghost use Rattle.demands.specs.EndToEnd.{pair_from_plan, Answered};
 
-use path::ChainAnswer;
 use plan::GREATEST_COUNT;
-use tag::{PairAnswer, Tag};
-use tree::BuildAnswer;
+use refusals::Refusal;
+use tag::{Label, PairAnswer, Tag};
 
-#[derive(Clone, Copy)]
+/// What is learnt of two windows.
+#[derive(Clone, Copy, Debug, PartialEq, Eq)]
 pub struct Answers {
-    // From the two tags alone.
+    /// From the two tags alone.
     pub pair: PairAnswer,
-    // From the plan.
-    pub chain: ChainAnswer,
+    /// From the plan: how many entries of the chain were written, or that there is none.
+    pub chain: Result<Option<u16>, Refusal>,
 }
 
 // The answer from the two windows' tags, or the refusal of the file or of a position.
@@ -23,19 +23,16 @@ fn pair_from_plan(file: &[u8], first: usize, second: usize) -> PairAnswer
     ensures { result ≡ pair_from_plan file.now first second }
 {
     let mut tags = [0; Tag::LENGTH * GREATEST_COUNT];
-    let windows = match tree::tag_file(file, &mut tags) {
-        BuildAnswer::Built {
-            plan: _,
-            windows,
-            components: _,
-        } => windows as usize,
-        BuildAnswer::Refused(refusal) => return PairAnswer::Refused(refusal),
-    };
-    let end = Tag::LENGTH * windows;
-    tag::pair_at(&tags[..end], first, second)
+    match tree::tag_file(file, &mut tags) {
+        Ok(built) => {
+            let end = Tag::LENGTH * usize::from(built.windows);
+            tag::pair_at::<Tag>(&tags[..end], first, second)
+        }
+        Err(refusal) => PairAnswer::Refused(refusal),
+    }
 }
 
-// Runs validation, build, lookup, pair and chain.
+/// Runs validation, build, lookup, pair and chain.
 pub fn answer_all(file: &[u8], first: usize, second: usize, out: &mut [u16]) -> Answers
     ensures pair_value { result.pair ≡ pair_from_plan file.now first second }
     ensures chain_value { result.chain ≡ chain_answer_of file.now first second (length out.old) }

@@ -16,7 +16,7 @@ use Rattle.refusals.proofs.Questions.{first_map}
 use Rattle.plan.specs.File.{plan_number, window_count}
 use Rattle.plan.specs.Validation.{greatest_count}
 use Rattle.plan.specs.AcceptedWindows.{AcceptedWindows}
-use Rattle.plan.proofs.Accepted.{accepted_sound}
+use Rattle.plan.proofs.Acceptance.{accepted_sound}
 use Rattle.plan.proofs.Calls.{plan_alike}
 use Rattle.plan.proofs.Counted.{windows_few}
 use Rattle.overlap.proofs.Counted.{windows_order}

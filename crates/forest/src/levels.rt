@@ -6,9 +6,9 @@ ghost use Rattle.interval_graph.specs.Forest.{is_root, component, depth};
 ghost use Rattle.forest.specs.Parents.{parent_in, covered};
 
 use crate::parents::{entries_covered, parent_at};
-use sequences::smaller;
 
 // Answers with the number of roots, which is that of components.
+#[tactic(auto, using(sequences::proofs::Table::by_table, crate::proofs::Leveled::by_level))]
 pub fn fill_levels(
     parents: &[u16],
     entries: usize,
@@ -19,11 +19,9 @@ pub fn fill_levels(
     ensures components_after { components.new ≡ overwritten components.old (table (component (parent_in parents.now)) (min (covered entries (length parents.now) (length components.old)) (length depths.old))) }
     ensures depths_after { depths.new ≡ overwritten depths.old (table (depth (parent_in parents.now)) (min (covered entries (length parents.now) (length components.old)) (length depths.old))) }
 {
-    let within = entries_covered(entries, parents.len(), components.len());
-    let end = smaller(within, depths.len());
+    let end = entries_covered(entries, parents.len(), components.len()).min(depths.len());
     let mut roots = 0;
-    let mut position = 0;
-    while position < end {
+    for position in 0..end {
         let parent = parent_at(parents, position);
         if parent == position {
             components[position] = roots;
@@ -33,7 +31,6 @@ pub fn fill_levels(
             components[position] = components[parent];
             depths[position] = depths[parent] + 1;
         }
-        position += 1;
     }
     roots
 }

@@ -3,20 +3,20 @@ ghost use Rattle.std.specs.Prelude.{◌≡◌, ◌≤◌, ◌<◌, length};
 ghost use Rattle.forest.specs.Parents.{parent_in, covered};
 
 use plan::GREATEST_COUNT;
-use sequences::smaller;
 
 // The entry where it stands before its position; an entry that does not is read as that of a root.
+#[tactic(auto, unfolding(crate::specs::Parents::parent_in))]
 pub(crate) fn parent_at(parents: &[u16], position: usize) -> usize
     requires { position < length parents.now }
     ensures value { result ≡ parent_in parents.now position }
     ensures upper_bound { result ≤ position }
 {
-    smaller(parents[position] as usize, position)
+    usize::from(parents[position]).min(position)
 }
 
 // How many entries a pass over two tables goes through.
 pub(crate) fn entries_covered(entries: usize, first: usize, second: usize) -> usize
     ensures { result ≡ covered entries first second }
 {
-    smaller(smaller(smaller(entries, GREATEST_COUNT), first), second)
+    entries.min(GREATEST_COUNT).min(first).min(second)
 }

@@ -20,8 +20,7 @@ fn assign_ranks(parents: &[u16], entries: usize, sizes: &[u16], next: &mut [u16]
     requires entries_in_ranks { entries ≤ length ranks.old }
     ensures { ranks.new ≡ overwritten ranks.old (table (rank entries (parent_in parents.now)) entries) }
 {
-    let mut position = 0;
-    while position < entries {
+    for position in 0..entries {
         let parent = parent_at(parents, position);
         let size = sizes[position];
         let mut start = 0;
@@ -31,7 +30,6 @@ fn assign_ranks(parents: &[u16], entries: usize, sizes: &[u16], next: &mut [u16]
         }
         next[position] = start;
         ranks[position] = start + size - 1;
-        position += 1;
     }
 }
 

@@ -14,13 +14,10 @@ pub(crate) fn add_sizes(parents: &[u16], entries: usize, sizes: &mut [u16])
     requires holds { Holds sizes.old (λ _. 1) entries }
     ensures { Holds sizes.new (size entries (parent_in parents.now)) entries }
 {
-    let mut left = entries;
-    while 0 < left {
-        let position = left - 1;
+    for position in (0..entries).rev() {
         let parent = parent_at(parents, position);
         if parent < position {
-            sizes[parent] = sizes[parent] + sizes[position];
+            sizes[parent] += sizes[position];
         }
-        left = position;
     }
 }

@@ -4,57 +4,52 @@
 
 ghost use Rattle.std.specs.Prelude.{◌≤◌, length};
 
+mod lines;
 mod rows;
 
+use lines::{Heading, Refused};
 use plan::GREATEST_COUNT;
+use rows::Tables;
 use std::io::{self, Read};
-use tag_bytes::Tag;
+use tag_bytes::{Label, Tag};
 
-// Fills a buffer from its front, and answers how many bytes came. A read that fails ends the input.
-fn read_full(from: &mut impl Read, buffer: &mut [u8]) -> usize
-    ensures { result ≤ length buffer.new }
+// The front of a buffer, filled until the input ends or no room is left. A read that fails ends the input too, and what came before it
+// counts. Of std `read_exact` does not say how much came, `read_to_end` takes memory, and `io::copy` reads on after an interruption.
+fn read_full<'a>(from: &mut impl Read, buffer: &'a mut [u8]) -> &'a [u8]
+    ensures { length result.now ≤ length buffer.old }
 {
-    let mut done = 0;
-    while done < buffer.len() {
-        let more = match from.read(&mut buffer[done..]) {
-            Ok(count) => count,
-            Err(_) => 0,
-        };
-        if more == 0 {
-            break;
-        }
-        done += more;
+    let mut filled = 0;
+    while let Ok(more @ 1..) = from.read(&mut buffer[filled..]) {
+        filled += more;
     }
-    done
+    &buffer[..filled]
+}
+
+// Builds the tables of a plan file, and prints them; the tags are not listed.
+fn print_listing(rt: &impl Print, file: &[u8]) -> io::Result<()> {
+    let mut tables = Tables::new();
+    let mut tags = [0; Tag::LENGTH * GREATEST_COUNT];
+    let answer = tree::build(
+        file,
+        &mut tables.parents,
+        &mut tables.components,
+        &mut tables.depths,
+        &mut tables.ranks,
+        &mut tables.last_ranks,
+        &mut tags,
+    );
+    match answer {
+        Ok(built) => {
+            rt.println(Heading(built))?;
+            tables.print_rows(rt, built.windows)
+        }
+        Err(refusal) => rt.println(Refused(refusal)),
+    }
 }
 
 fn main(rt: HostRuntime) -> io::Result<()> {
     // One byte more than any plan, so that a file that is too long is seen to be.
-    let mut file = [0; 16393];
-    let read = read_full(&mut rt.reader(), &mut file);
-    let mut parents = [0; GREATEST_COUNT];
-    let mut components = [0; GREATEST_COUNT];
-    let mut depths = [0; GREATEST_COUNT];
-    let mut ranks = [0; GREATEST_COUNT];
-    let mut last_ranks = [0; GREATEST_COUNT];
-    let mut tags = [0; Tag::LENGTH * GREATEST_COUNT];
-    let answer = tree::build(
-        &file[..read],
-        &mut parents,
-        &mut components,
-        &mut depths,
-        &mut ranks,
-        &mut last_ranks,
-        &mut tags,
-    );
-    let windows = rows::print_answer(&rt, answer)?;
-    rows::print_rows(
-        &rt,
-        windows,
-        &parents,
-        &components,
-        &depths,
-        &ranks,
-        &last_ranks,
-    )
+    let mut buffer = [0; 16393];
+    let file = read_full(&mut rt.reader(), &mut buffer);
+    print_listing(&rt, file)
 }

@@ -1,60 +1,49 @@
-// The lines of the listing: plan number, windows and components, and a row for each window; or the refusal.
-use plan::GREATEST_COUNT;
-use refusals::Refusal;
-use std::io;
-use tree::BuildAnswer;
+// The tables of a plan, and a row of them for each window.
+ghost use Rattle.std.specs.Prelude.{◌<◌};
 
-// One row: the position, and its entry in each of the five tables.
-fn print_row(rt: &impl Print, position: u16, row: [u16; 5]) -> io::Result<()> {
-    println!(rt;
-        "{position} {} {} {} {} {}",
-        row[0], row[1], row[2], row[3], row[4]
-    )
+use crate::lines::Row;
+use plan::GREATEST_COUNT;
+use std::io;
+
+// The five tables that the build fills, with room for the greatest plan.
+#[derive(Clone, Debug, PartialEq, Eq, Drop)]
+pub(crate) struct Tables {
+    pub(crate) parents: [u16; GREATEST_COUNT],
+    pub(crate) components: [u16; GREATEST_COUNT],
+    pub(crate) depths: [u16; GREATEST_COUNT],
+    pub(crate) ranks: [u16; GREATEST_COUNT],
+    pub(crate) last_ranks: [u16; GREATEST_COUNT],
 }
 
-// The rows of the first windows, of which there are at most as many as the tables have entries.
-pub(crate) fn print_rows(
-    rt: &impl Print,
-    windows: usize,
-    parents: &[u16; GREATEST_COUNT],
-    components: &[u16; GREATEST_COUNT],
-    depths: &[u16; GREATEST_COUNT],
-    ranks: &[u16; GREATEST_COUNT],
-    last_ranks: &[u16; GREATEST_COUNT],
-) -> io::Result<()> {
-    for at in 0..GREATEST_COUNT {
-        if at < windows {
-            let row = [
-                parents[at],
-                components[at],
-                depths[at],
-                ranks[at],
-                last_ranks[at],
-            ];
-            print_row(rt, at as u16, row)?;
+impl Tables {
+    pub(crate) fn new() -> Self {
+        Tables {
+            parents: [0; GREATEST_COUNT],
+            components: [0; GREATEST_COUNT],
+            depths: [0; GREATEST_COUNT],
+            ranks: [0; GREATEST_COUNT],
+            last_ranks: [0; GREATEST_COUNT],
         }
     }
-    Ok(())
-}
 
-fn print_refusal(rt: &impl Print, refusal: Refusal) -> io::Result<()> {
-    println!(rt; "refused {} {}", refusal.number, refusal.position)
-}
+    fn row(&self, position: usize) -> Row
+        requires { position < GREATEST_COUNT }
+    {
+        Row {
+            position,
+            parent: self.parents[position],
+            component: self.components[position],
+            depth: self.depths[position],
+            rank: self.ranks[position],
+            last_rank: self.last_ranks[position],
+        }
+    }
 
-// The first line. Answers how many rows follow.
-pub(crate) fn print_answer(rt: &impl Print, answer: BuildAnswer) -> io::Result<usize> {
-    match answer {
-        BuildAnswer::Built {
-            plan,
-            windows,
-            components,
-        } => {
-            println!(rt; "{plan} {windows} {components}")?;
-            Ok(windows as usize)
+    // The rows of the first windows, of which there are at most as many as the tables have entries.
+    pub(crate) fn print_rows(&self, rt: &impl Print, windows: u16) -> io::Result<()> {
+        for position in 0..usize::from(windows).min(GREATEST_COUNT) {
+            rt.println(self.row(position))?;
         }
-        BuildAnswer::Refused(refusal) => {
-            print_refusal(rt, refusal)?;
-            Ok(0)
-        }
+        Ok(())
     }
 }

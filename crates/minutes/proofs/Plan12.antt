@@ -4,10 +4,10 @@
 use Prim.Native.Nat.{ℕ}
 use mathlib.Core.{Path.◌≡◌, Path.refl, List.[], List.◌∷◌}
 use Rattle.sequences.specs.Table.{table, overwritten}
-use Rattle.refusals.specs.Question.{refusal_by, refusal_about, room_question}
+use Rattle.refusals.specs.Question.{refusal_by, refusal_about}
 use Rattle.plan.proofs.Plan12.{file}
 use Rattle.overlap.proofs.Plan12.{meaning}
-use Rattle.minutes.specs.declared.answers.TableAnswer.TheVariants.{Filled, Refused}
+use Rattle.std.specs.Prelude.{Ok, Err}
 use Rattle.minutes.specs.Tables.{last_of, parent_of}
 use Rattle.plan.specs.{declared.windows.Window.Window, File.file_of, Even.end_before, Even.even_question, Even.even_questions}
 use Rattle.minutes.specs.SingleTable.{table_questions, table_answer_of, after_table}
@@ -18,11 +18,11 @@ pub plan_12_found : table (parent_of file) 7 ∷ table (last_of file) 7 ∷ []
 unfolding meaning parent_of last_of
 plan_12_found = refl
 
-pub plan_12_room : table_answer_of file 7 ∷ table_answer_of file 6 ∷ [] ≡ Filled 7 ∷ Refused (refusal_by 8) ∷ []
-unfolding meaning room_question table_questions table_answer_of
+pub plan_12_room : table_answer_of file 7 ∷ table_answer_of file 6 ∷ [] ≡ Ok 7 ∷ Err (refusal_by 8) ∷ []
+unfolding meaning table_questions table_answer_of
 plan_12_room = refl
 
-pub plan_12_after : after_table (Filled 2) (parent_of file) (9 ∷ 9 ∷ 9 ∷ []) ∷ after_table (Refused (refusal_by 8)) (parent_of file) (9 ∷ []) ∷ []
+pub plan_12_after : after_table (Ok 2) (parent_of file) (9 ∷ 9 ∷ 9 ∷ []) ∷ after_table (Err (refusal_by 8)) (parent_of file) (9 ∷ []) ∷ []
     ≡ (0 ∷ 0 ∷ 9 ∷ []) ∷ (9 ∷ []) ∷ []
 unfolding meaning parent_of after_table overwritten
 plan_12_after = refl
@@ -35,6 +35,6 @@ window offset length = record { offset = offset; length = length }
 pub even_first : even_table_answer_of file 0 ∷ even_table_answer_of (file_of 0 1 (window 0 5 ∷ window 1 4 ∷ window 2 5 ∷ [])) 3
     ∷ even_table_answer_of (file_of 0 1 (window 0 5 ∷ window 1 4 ∷ window 2 5 ∷ [])) 2
     ∷ even_table_answer_of (file_of 0 1 (window 1 5 ∷ window 1 4 ∷ window 0 9 ∷ [])) 3 ∷ []
-    ≡ Refused (refusal_about 1 (refusal_by 13)) ∷ Filled 3 ∷ Refused (refusal_by 8) ∷ Refused (refusal_about 2 (refusal_by 6)) ∷ []
-unfolding meaning room_question end_before even_question even_questions even_table_questions even_table_answer_of
+    ≡ Err (refusal_about 1 (refusal_by 13)) ∷ Ok 3 ∷ Err (refusal_by 8) ∷ Err (refusal_about 2 (refusal_by 6)) ∷ []
+unfolding meaning end_before even_question even_questions even_table_questions even_table_answer_of
 even_first = refl

@@ -16,7 +16,7 @@ use Rattle.interval_graph.proofs.Last.{last_cases, last_ge, overlap_last}
 use Rattle.overlap.specs.Overlap.{overlaps}
 use Rattle.plan.specs.Validation.{greatest_count}
 use Rattle.plan.specs.AcceptedWindows.{AcceptedWindows}
-use Rattle.plan.proofs.Accepted.{accepted_sound, offsets_sorted}
+use Rattle.plan.proofs.Acceptance.{accepted_sound, offsets_sorted}
 use Rattle.overlap.proofs.InOrder.{overlaps_bound}
 use Rattle.plan.proofs.Counted.{windows_few}
 use Rattle.overlap.proofs.Counted.{windows_order, bound_fits, own_offset}

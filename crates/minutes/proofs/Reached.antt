@@ -12,7 +12,7 @@ use Rattle.interval_graph.proofs.Last.{last_ge, overlap_last, last_overlap}
 use Rattle.plan.specs.declared.windows.Window.{Window}
 use Rattle.plan.specs.File.{window_count, minimum_handover, window_at, end_of}
 use Rattle.plan.specs.Validation.{AcceptedPlan}
-use Rattle.plan.proofs.Accepted.{accepted_sound, offsets_sorted}
+use Rattle.plan.proofs.Acceptance.{accepted_sound, offsets_sorted}
 use Rattle.plan.proofs.Counted.{needed_least}
 use Rattle.overlap.specs.Overlap.{overlaps, margin_reaches}
 use Rattle.overlap.proofs.Overlap.{overlaps_in_order}

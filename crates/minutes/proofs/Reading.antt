@@ -1,7 +1,7 @@
 -- The offset and the bound of a window that was read, and the table of the offsets.
 -- Assumes nothing.
 use Prim.Native.Nat.{ℕ, ◌-◌, ◌≤◌, ◌<◌}
-use mathlib.Core.{Path.◌≡◌, Path.refl, Path.ap, Path.◌∙◌, List.List}
+use mathlib.Core.{Path.◌≡◌, Path.refl, Path.◌∙◌, List.List}
 use native.Mathlib.Omega.{arith}
 use lib.ListN.{replicate, length-replicate, get_or-replicate}
 use Rattle.sequences.specs.Table.{table, overwritten}
@@ -16,20 +16,18 @@ use Rattle.overlap.proofs.Counted.{bound_fits}
 use Rattle.minutes.specs.Tables.{offset_at, bound_at}
 use Rattle.minutes.specs.Passes.{filling, Prepared}
 
-pub offset_read : (file : List ℕ) (v : ℕ) (w : Window) → w ≡ window_at file v → w.offset ≡ offset_at file v
-unfolding offset_at
-offset_read file v w same = ap (λ (x : Window). x.offset) same
-
--- The end and the minimum that were read: neither difference lies below 0, and what they give is the bound, which fits 32 bits.
-module _ (file : List ℕ) (ok : AcceptedPlan file) (v : ℕ) (h : v < window_count file) (w : Window) (end minimum : ℕ)
-    (same : w ≡ window_at file v) (ends : end ≡ end_of w) (read : minimum ≡ minimum_handover file) where
-  pub bound_formed : (1 ≤ minimum) × (minimum - 1 ≤ end) × (end - (minimum - 1) < 4294967296)
+-- The end and the minimum of a window: neither difference lies below 0, and what they give is the bound, which fits 32 bits.
+module _ (file : List ℕ) (v : ℕ) (ok : AcceptedPlan file) (h : v < window_count file) where
+  pub bound_formed : (minimum_handover file - 1 ≤ end_of (window_at file v)) × (1 ≤ minimum_handover file)
+      × (end_of (window_at file v) - (minimum_handover file - 1) < 4294967296)
   unfolding bound_of
-  bound_formed = rw (ends, same, read) ((minimum_within file ok v h).0, (minimum_within file ok v h).1, bound_fits file ok v h)
+  bound_formed = ((minimum_within file ok v h).1, (minimum_within file ok v h).0, bound_fits file ok v h)
 
-  pub bound_read : end - (minimum - 1) ≡ bound_at file v
+  -- What was read of them may be written down first.
+  pub bound_read : (w : Window) (end minimum : ℕ) → w ≡ window_at file v → end ≡ end_of w → minimum ≡ minimum_handover file →
+      end - (minimum - 1) ≡ bound_at file v
   unfolding bound_at bound_of
-  bound_read = rw (ends, same, read)
+  bound_read w end minimum same ends read = rw (ends, same, read)
 
 -- The table of offsets that the pass leaves, where it was full of the filling before.
 pub prepared_read : (file : List ℕ) (windows : ℕ) (offsets : List ℕ) → AcceptedWindows file windows →

@@ -1,23 +1,22 @@
 -- Which windows of an accepted plan overlap one of them, as the code asks it: the search for its last, and the test on a window before it.
--- Vocabulary: Halving, meets_earlier.
+-- Vocabulary: Halving, halving_*, last_within, meets_earlier.
 -- Assumes nothing.
 use Prim.Native.Nat.{ℕ, ◌+◌, ◌≤◌, ◌<◌}
-use mathlib.Core.{Bool.Bool, Bool.true, Bool.false, Path.◌≡◌, Path.◌∙◌, Logic.⊎_elim, List.List}
+use mathlib.Core.{Bool.true, Bool.false, Path.◌≡◌, Path.◌∙◌, Logic.⊎_elim, List.List}
 use native.Mathlib.{Omega.arith, Nat.le_antisymm}
 use borrow.Author.Tests.{le-leb}
 use Rattle.sequences.proofs.Tests.{lt_or_ge}
 use Rattle.interval_graph.specs.Order.{IntervalOrder}
 use Rattle.interval_graph.proofs.Last.{last_ge, last_below}
-use Rattle.plan.specs.declared.windows.Window.{Window}
-use Rattle.plan.specs.File.{window_count, minimum_handover, window_at, end_of}
+use Rattle.plan.specs.File.{window_count}
 use Rattle.plan.specs.Validation.{greatest_count, AcceptedPlan}
-use Rattle.plan.proofs.Accepted.{Sound, accepted_sound}
+use Rattle.plan.proofs.Acceptance.{Sound, accepted_sound}
 use Rattle.plan.proofs.Counted.{needed_least}
 use Rattle.overlap.specs.Overlap.{overlaps, margin_reaches}
 use Rattle.overlap.proofs.Overlap.{overlaps_in_order}
 use Rattle.overlap.proofs.InOrder.{interval_order}
 use Rattle.minutes.specs.Tables.{last_of}
-use Rattle.minutes.proofs.Reached.{reached, asked_reached, behind_last, not_behind}
+use Rattle.minutes.proofs.Reached.{reached, behind_last, not_behind}
 
 -- The search for the last of u: a window that the test holds for, and one behind it that it does not, or the end of the plan.
 pub record Halving (file : List ℕ) (u low high : ℕ) : Type 0 where
@@ -25,14 +24,6 @@ pub record Halving (file : List ℕ) (u low high : ℕ) : Type 0 where
   pub stop : high ≤ window_count file
   pub before : reached file u low ≡ true
   pub past : high < window_count file → reached file u high ≡ false
-
--- The window between the two takes the place of one of them.
-module _ (file : List ℕ) (u low high middle : ℕ) (between : (low < middle) × (middle < high)) (s : Halving file u low high) where
-  pub halving_up : reached file u middle ≡ true → Halving file u middle high
-  halving_up near = record { some = between.1; stop = s.stop; before = near; past = s.past }
-
-  pub halving_down : reached file u middle ≡ false → Halving file u low middle
-  halving_down far = record { some = between.0; stop = omega (arith, s.stop); before = s.before; past = λ _. far }
 
 module _ (file : List ℕ) (ok : AcceptedPlan file) (u : ℕ) (own : u < window_count file) where
   order : IntervalOrder (window_count file) (overlaps file)
@@ -56,7 +47,5 @@ module _ (file : List ℕ) (ok : AcceptedPlan file) (u : ℕ) (own : u < window_
       (λ h. omega (arith, behind_last file ok u own high h (s.past h))) (λ h. omega (arith, last_within)) (lt_or_ge high (window_count file)))
 
   -- A window before u.
-  pub meets_earlier : (v minimum end : ℕ) (w : Window) (asked : Bool) → v < u → minimum ≡ minimum_handover file →
-      end ≡ end_of (window_at file v) → w ≡ window_at file u → asked ≡ margin_reaches minimum end w.offset → overlaps file u v ≡ asked
-  meets_earlier v minimum end w asked before m e r a =
-      order.symmetric u v ∙ overlaps_in_order file ok v u before own ∙ asked_reached file v u minimum end w asked m e r a
+  pub meets_earlier : (v : ℕ) → v < u → overlaps file u v ≡ reached file v u
+  meets_earlier v before = order.symmetric u v ∙ overlaps_in_order file ok v u before own

@@ -2,6 +2,6 @@
 #![tactic(auto)]
 
 mod neighbourhood;
-mod windows;
+mod spans;
 
-pub use neighbourhood::{NeighboursAnswer, neighbours};
+pub use neighbourhood::neighbours;

@@ -14,7 +14,7 @@ use Rattle.interval_graph.specs.Forest as Forest
 use Rattle.interval_graph.proofs.Parent.{tree}
 use Rattle.interval_graph.proofs.Agreement.{root_test_agrees, depth_agrees, component_agrees, rank_agrees}
 use Rattle.interval_graph.proofs.Last.{last_below}
-use Rattle.refusals.specs.declared.Refusal.{Refusal}
+use Rattle.refusals.specs.declared.refusal.Refusal.{Refusal}
 use Rattle.refusals.proofs.Questions.{first_map}
 use Rattle.plan.specs.File.{plan_number, window_count}
 use Rattle.overlap.specs.Overlap.{overlaps}
@@ -22,14 +22,13 @@ use Rattle.plan.specs.AcceptedWindows.{AcceptedWindows}
 use Rattle.overlap.proofs.Counted.{windows_order}
 use Rattle.forest.specs.Parents.{parent_in, looked_up}
 use Rattle.forest.proofs.Parented.{held_parents}
-use Rattle.minutes.specs.declared.answers.TableAnswer.{TableAnswer}
 use Rattle.minutes.specs.Tables.{last_of, parent_of}
 use Rattle.minutes.specs.SingleTable.{table_questions, table_answer_of}
 use Rattle.minutes.proofs.SingleTabled.{table_fills}
-use Rattle.numbering.specs.declared.answers.BuildAnswer.{BuildAnswer}
-use Rattle.numbering.specs.declared.answers.BuildAnswer.TheVariants.{Built, Refused}
+use Rattle.std.specs.Prelude.{Result, Ok, Err}
+use Rattle.numbering.specs.declared.filling.Built.{Built}
 use Rattle.numbering.specs.Tables.{component_of, depth_of, rank_of, last_rank_of, component_count}
-use Rattle.numbering.specs.Numbering.{least_room, numbers_answer_of}
+use Rattle.numbering.specs.Numbering.{least_room, built_as, numbers_answer_of}
 
 -- Room for so many windows in each of the five tables.
 pub record Rooms (windows parents components depths ranks last_ranks : ℕ) : Type 0 where
@@ -95,34 +94,39 @@ module _ {file : List ℕ} {windows : ℕ} (plan : AcceptedWindows file windows)
       ∙ (rw first (overwritten_again before _ _ (length_table (last_of file) windows ∙ sym (length_table (last_rank_of file) windows)))))
 
 -- The answer of the call that fills the parents and the lasts, as that of all five tables.
-abbrev pub built : List ℕ → TableAnswer → BuildAnswer
-built file (TableAnswer.Filled windows) = Built (plan_number file) windows (component_count file)
-built file (TableAnswer.Refused refusal) = Refused refusal
+abbrev pub built : List ℕ → Result ℕ Refusal → Result Built Refusal
+built file (Ok windows) = built_as (plan_number file) windows (component_count file)
+built file (Err refusal) = Err refusal
 
-numbers_tables : (file : List ℕ) (room : ℕ) → built file (table_answer_of file room) ≡ numbers_answer_of file room
+pub numbers_tables : (file : List ℕ) (room : ℕ) → numbers_answer_of file room ≡ built file (table_answer_of file room)
 unfolding table_answer_of numbers_answer_of
-numbers_tables file room = first_map (built file) (table_questions file room) TableAnswer.Refused (TableAnswer.Filled (window_count file))
+numbers_tables file room = sym (first_map (built file) (table_questions file room) Err (Ok (window_count file)))
 
-module _ (file : List ℕ) (room : ℕ) (answer : TableAnswer) (asked : answer ≡ table_answer_of file room) where
-  pub numbers_refused : (refusal : Refusal) → answer ≡ TableAnswer.Refused refusal → Refused refusal ≡ numbers_answer_of file room
-  numbers_refused refusal e = ap (built file) (sym e ∙ asked) ∙ numbers_tables file room
+pub numbers_built : (file : List ℕ) (room windows number components : ℕ) → Ok windows ≡ table_answer_of file room → number ≡ plan_number file →
+    components ≡ component_count file → built_as number windows components ≡ numbers_answer_of file room
+numbers_built file room windows number components e named counted =
+    rw (named, counted) (ap (built file) e ∙ sym (numbers_tables file room))
 
-  pub numbers_built : (windows number components : ℕ) → answer ≡ TableAnswer.Filled windows → number ≡ plan_number file →
-      components ≡ component_count file → Built number windows components ≡ numbers_answer_of file room
-  numbers_built windows number components e named counted =
-      rw (named, counted) (ap (built file) (sym e ∙ asked) ∙ numbers_tables file room)
+-- The numbers of an answer that is no refusal.
+abbrev said_plan : Result Built Refusal → ℕ
+said_plan (Ok whole) = whole.plan
+said_plan (Err refusal) = 0
+
+abbrev said_windows : Result Built Refusal → ℕ
+said_windows (Ok whole) = whole.windows
+said_windows (Err refusal) = 0
 
 -- Tables that are filled are those of an accepted plan, whose windows have room in all of them.
-pub numbers_fill : (file : List ℕ) (room : ℕ) (answer : BuildAnswer) (number windows components : ℕ) → answer ≡ numbers_answer_of file room →
-    answer ≡ Built number windows components → AcceptedWindows file windows × (windows ≤ room) × (number ≡ plan_number file)
-numbers_fill file room answer number windows components e f = by_answer (table_answer_of file room) refl
+pub numbers_fill : (file : List ℕ) (room number windows components : ℕ) → numbers_answer_of file room ≡ built_as number windows components →
+    AcceptedWindows file windows × (windows ≤ room) × (number ≡ plan_number file)
+numbers_fill file room number windows components e = by_answer (table_answer_of file room) refl
   where
-    by_answer : (t : TableAnswer) → t ≡ table_answer_of file room → AcceptedWindows file windows × (windows ≤ room) × (number ≡ plan_number file)
-    by_answer (TableAnswer.Refused refusal) t =
-        let z : ◌≡◌ {A = ℕ} 0 1 = cc (ap (built file) t ∙ numbers_tables file room) in
+    by_answer : (t : Result ℕ Refusal) → table_answer_of file room ≡ t → AcceptedWindows file windows × (windows ≤ room) × (number ≡ plan_number file)
+    by_answer (Err refusal) t =
+        let z : ◌≡◌ {A = ℕ} 0 1 = cc (ap (built file) t, numbers_tables file room) in
         absurd (omega arith)
-    by_answer (TableAnswer.Filled n) t =
-        let same : windows ≡ n = cc (ap (built file) t ∙ numbers_tables file room) in
-        let named : number ≡ plan_number file = cc (ap (built file) t ∙ numbers_tables file room) in
-        let fills = table_fills file room (TableAnswer.Filled n) n t refl in
-        rw same (fills.0, fills.1, named)
+    by_answer (Ok n) t =
+        let whole : built file (Ok n) ≡ built_as number windows components = sym (ap (built file) t) ∙ (sym (numbers_tables file room) ∙ e) in
+        let same : windows ≡ n = sym (ap said_windows whole) in
+        let fills = table_fills file room n t in
+        rw same (fills.0, fills.1, sym (ap said_plan whole))

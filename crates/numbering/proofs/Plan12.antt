@@ -3,17 +3,17 @@
 -- Assumes nothing.
 use mathlib.Core.{Path.◌≡◌, Path.refl, List.[], List.◌∷◌}
 use Rattle.sequences.specs.Table.{table, overwritten}
-use Rattle.refusals.specs.Question.{refusal_by, room_question}
+use Rattle.refusals.specs.Question.{refusal_by}
 use Rattle.plan.proofs.Plan12.{file}
 use Rattle.overlap.proofs.Plan12.{meaning}
 use Rattle.minutes.specs.SingleTable.{table_questions}
-use Rattle.numbering.specs.declared.answers.BuildAnswer.TheVariants.{Built, Refused}
+use Rattle.std.specs.Prelude.{Err}
 use Rattle.numbering.specs.Tables.{component_of, depth_of, rank_of, last_rank_of, component_count, numbers_at}
-use Rattle.numbering.specs.Numbering.{least_room, numbers_answer_of, after_build}
+use Rattle.numbering.specs.Numbering.{least_room, built_as, numbers_answer_of, after_build}
 
 -- What a computation on the file opens.
 unfoldable pub numbered : Unit {0}
-unfolding meaning room_question table_questions overwritten component_of depth_of rank_of last_rank_of component_count numbers_at numbers_answer_of
+unfolding meaning table_questions overwritten component_of depth_of rank_of last_rank_of component_count numbers_at numbers_answer_of
     after_build
 numbered = tt
 
@@ -31,12 +31,12 @@ plan_12_tags = refl
 
 -- Tables that just hold the windows, and one that holds one less.
 pub plan_12_numbered : numbers_answer_of file (least_room 7 7 7 7 7 7) ∷ numbers_answer_of file (least_room 7 7 7 6 7 7) ∷ []
-    ≡ Built 12 7 2 ∷ Refused (refusal_by 8) ∷ []
+    ≡ built_as 12 7 2 ∷ Err (refusal_by 8) ∷ []
 unfolding numbered
 plan_12_numbered = refl
 
 -- What lies past the written entries stays, and a refusal alters nothing.
-pub plan_12_after : after_build (Built 12 2 1) (rank_of file) (9 ∷ 9 ∷ 9 ∷ []) ∷ after_build (Refused (refusal_by 8)) (rank_of file) (9 ∷ []) ∷ []
+pub plan_12_after : after_build (built_as 12 2 1) (rank_of file) (9 ∷ 9 ∷ 9 ∷ []) ∷ after_build (Err (refusal_by 8)) (rank_of file) (9 ∷ []) ∷ []
     ≡ (5 ∷ 0 ∷ 9 ∷ []) ∷ (9 ∷ []) ∷ []
 unfolding numbered
 plan_12_after = refl

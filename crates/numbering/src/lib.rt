@@ -1,8 +1,6 @@
 // The numbers of a plan's windows: the five tables of its distance tree.
 #![tactic(auto)]
 
-mod answers;
 mod filling;
 
-pub use answers::BuildAnswer;
-pub use filling::fill_numbers;
+pub use filling::{Built, fill_numbers};

@@ -8,7 +8,7 @@ use Rattle.interval_graph.specs.Order.{IntervalOrder}
 use Rattle.plan.specs.File.{window_count, minimum_handover, window_at, end_of}
 use Rattle.plan.specs.Validation.{AcceptedPlan}
 use Rattle.plan.specs.AcceptedWindows.{AcceptedWindows}
-use Rattle.plan.proofs.Accepted.{accepted_sound}
+use Rattle.plan.proofs.Acceptance.{accepted_sound}
 use Rattle.overlap.specs.Overlap.{overlaps, bound_of}
 use Rattle.overlap.proofs.InOrder.{interval_order}
 

@@ -13,7 +13,7 @@ use Rattle.sequences.proofs.{Tests.truth, Tests.iff_equal}
 use Rattle.interval_graph.specs.Order.{IntervalOrder}
 use Rattle.plan.specs.{File.window_count, File.minimum_handover, File.window_at, File.end_of}
 use Rattle.plan.specs.Validation.{AcceptedPlan}
-use Rattle.plan.proofs.Accepted.{accepted_sound, offsets_sorted}
+use Rattle.plan.proofs.Acceptance.{accepted_sound, offsets_sorted}
 use Rattle.overlap.specs.Overlap.{shared_minutes, overlaps, margin_reaches, bound_of}
 use Rattle.overlap.proofs.Overlap.{shared_minutes_lem, overlaps_minimum, minimum_overlaps, overlaps_in_order}
 

@@ -13,18 +13,16 @@ use lib.Signed.{mag, non_neg, ◌≤ℤ◌}
 use mir.{Syntax.w64, Val.SFits, Val.to_z, Val.of_z, Facts.to_z_pos, Facts.to_z-of_z}
 use borrow.Author.Tests.{lt-ltb, le-ltb, le-leb, leb-true}
 use Rattle.sequences.proofs.Tests.{lt_or_ge}
-use Rattle.refusals.specs.declared.Refusal.{Refusal}
-use Rattle.refusals.specs.declared.Asked.{Asked}
-use Rattle.refusals.specs.declared.Asked.TheVariants as asked
+use Rattle.std.specs.Prelude.{Result, Ok, Err}
+use Rattle.refusals.specs.declared.refusal.Refusal.{Refusal}
 use Rattle.refusals.specs.Question.{asked_of, position_questions}
 use Rattle.refusals.proofs.Questions.{after_asked, asked_first}
-use Rattle.plan.specs.declared.questions.Validation.{Validation}
+use Rattle.plan.specs.declared.questions.Accepted.{Accepted}
 use Rattle.plan.specs.declared.windows.Window.{Window}
 use Rattle.plan.specs.File.{window_at, end_of}
 use Rattle.plan.specs.Validation.{validate_answer_of}
 use Rattle.plan.specs.AcceptedWindows.{AcceptedWindows}
 use Rattle.plan.proofs.Calls.{plan_refused, plan_passed}
-use Rattle.overlap.specs.declared.margins.MarginAnswer.TheVariants.{Margin, Refused}
 use Rattle.overlap.specs.Overlap.{shared_minutes, margin_reaches}
 use Rattle.overlap.specs.Margin.{margin_of, margin_between, margin_questions, margin_answer_of}
 use Rattle.overlap.proofs.Overlap.{shared_minutes_lem}
@@ -161,22 +159,22 @@ margin_own w = margin_ge w w (omega arith) ∙ ap pos (omega arith)
 
 -- The answers.
 module _ (file : List ℕ) (first second : ℕ) where
-  pub margin_refused : (answer : Validation) → answer ≡ validate_answer_of file → (refusal : Refusal) → answer ≡ Validation.Refused refusal →
-      Refused refusal ≡ margin_answer_of file first second
+  pub margin_refused : (answer : Result Accepted Refusal) → answer ≡ validate_answer_of file → (refusal : Refusal) → answer ≡ Err refusal →
+      Err refusal ≡ margin_answer_of file first second
   unfolding margin_answer_of margin_questions
-  margin_refused = plan_refused file _ Refused _
+  margin_refused = plan_refused file _ Err _
 
-  module _ {windows : ℕ} (p : AcceptedWindows file windows) (answer : Asked) (e : answer ≡ asked_of (position_questions first second windows)) where
-    asked_margin : margin_answer_of file first second ≡ after_asked answer Refused (Margin (margin_between file first second))
+  module _ {windows : ℕ} (p : AcceptedWindows file windows) (answer : Result (Unit {0}) Refusal) (e : answer ≡ asked_of (position_questions first second windows)) where
+    asked_margin : margin_answer_of file first second ≡ after_asked answer Err (Ok (margin_between file first second))
     unfolding margin_answer_of margin_questions
     asked_margin =
-        plan_passed file _ Refused _ p.accepted
-        ∙ rw (← p.counted, e) (asked_first (position_questions first second windows) Refused (Margin (margin_between file first second)))
+        plan_passed file _ Err _ p.accepted
+        ∙ rw (← p.counted, e) (asked_first (position_questions first second windows) Err (Ok (margin_between file first second)))
 
-    pub margin_past : (refusal : Refusal) → answer ≡ asked.Refused refusal → Refused refusal ≡ margin_answer_of file first second
+    pub margin_past : (refusal : Refusal) → answer ≡ Err refusal → Err refusal ≡ margin_answer_of file first second
     margin_past refusal f = sym (asked_margin ∙ rw f)
 
-    pub margin_answered : answer ≡ asked.Passed → (u v : Window) (r : ℤ) → u ≡ window_at file first → v ≡ window_at file second →
-        r ≡ margin_of u v → Margin r ≡ margin_answer_of file first second
+    pub margin_answered : answer ≡ Ok tt → (u v : Window) (r : ℤ) → u ≡ window_at file first → v ≡ window_at file second →
+        r ≡ margin_of u v → Ok r ≡ margin_answer_of file first second
     unfolding margin_between
     margin_answered f u v r a b m = rw (m, a, b) (sym (asked_margin ∙ rw f))

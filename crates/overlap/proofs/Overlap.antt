@@ -12,7 +12,7 @@ use borrow.Author.Tests.{ltb-true, leb-true, eqb-false, lt-ltb, le-leb, ne_eqb, 
 use Rattle.sequences.proofs.{Search.count_range, Tests.truth, Tests.and_left, Tests.and_right, Tests.and_intro, Tests.iff_equal}
 use Rattle.plan.specs.{declared.windows.Window.Window, File.window_count, File.minimum_handover, File.window_at, File.end_of}
 use Rattle.plan.specs.Validation.{AcceptedPlan}
-use Rattle.plan.proofs.Accepted.{Sound, accepted_sound, offsets_sorted}
+use Rattle.plan.proofs.Acceptance.{Sound, accepted_sound, offsets_sorted}
 use Rattle.overlap.specs.Overlap.{covers, shared_minutes, sharing, overlaps, shares_minute, margin_reaches}
 
 -- A window covers the minutes from its offset up to, not including, its end.

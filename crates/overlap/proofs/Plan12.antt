@@ -4,9 +4,9 @@ use mathlib.Core.{Bool.true, Bool.false, Path.◌≡◌, Path.refl, List.[], Lis
 use lib.IntN.{pos, negsuc}
 use Rattle.sequences.specs.Table.{table}
 use Rattle.interval_graph.proofs.Plan12.{definitions, row, listing}
-use Rattle.refusals.specs.Question.{refusal_by, refusal_from, from, position_question, position_questions}
+use Rattle.refusals.specs.Question.{refusal_by, refusal_from}
 use Rattle.plan.proofs.Plan12.{file, window, two, plan_meaning}
-use Rattle.overlap.specs.declared.margins.MarginAnswer.TheVariants.{Margin, Refused}
+use Rattle.std.specs.Prelude.{Ok, Err}
 use Rattle.overlap.specs.Overlap.{covers, shared_minutes, sharing, overlaps, margin_reaches, bound_of}
 use Rattle.overlap.specs.Margin.{margin_of, margin_between, margin_questions, margin_answer_of}
 
@@ -54,6 +54,6 @@ late_computed = (refl, refl, refl)
 -- A refusal has the number of its question, and the second position its input; the first is asked about first.
 pub plan_12_margin_answers :
     margin_answer_of file 0 4 ∷ margin_answer_of file 7 9 ∷ margin_answer_of file 0 7 ∷ margin_answer_of (two 11) 2 0 ∷ []
-    ≡ Margin (negsuc 1) ∷ Refused (refusal_by 7) ∷ Refused (refusal_from 1 (refusal_by 7)) ∷ Refused (refusal_by 4) ∷ []
-unfolding meaning margin_of margin_between margin_questions margin_answer_of position_questions position_question from
+    ≡ Ok (negsuc 1) ∷ Err (refusal_by 7) ∷ Err (refusal_from 1 (refusal_by 7)) ∷ Err (refusal_by 4) ∷ []
+unfolding meaning margin_of margin_between margin_questions margin_answer_of
 plan_12_margin_answers = refl

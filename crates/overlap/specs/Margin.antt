@@ -1,13 +1,12 @@
 -- Paper 02, Q-7: "From a plan and two positions give the smaller end less the greater offset: positive minutes shared, 0 where they touch,
 -- and a negative number for the gap. A window with itself gives its length."
 -- Vocabulary: margin_of, margin_between, margin_questions, margin_answer_of.
-use Rattle.std.specs.Prelude.{ℕ, min, max, List, ◌++◌, ℤ, pos, ◌-ℤ◌}
+use Rattle.std.specs.Prelude.{ℕ, min, max, List, ◌++◌, ℤ, pos, ◌-ℤ◌, Result, Ok, Err}
+use Rattle.refusals.specs.declared.refusal.Refusal.{Refusal}
 use Rattle.refusals.specs.Question.{Question, position_questions, first_no}
 use Rattle.plan.specs.declared.windows.Window.{Window}
 use Rattle.plan.specs.File.{window_count, window_at, end_of}
 use Rattle.plan.specs.Validation.{plan_questions}
-use Rattle.overlap.specs.declared.margins.MarginAnswer.{MarginAnswer}
-use Rattle.overlap.specs.declared.margins.MarginAnswer.TheVariants.{Margin, Refused}
 
 -- A whole number, which may lie below 0: no difference is cut there. (`pos n` is n as a whole number, and `-ℤ` takes one from another.)
 unfoldable pub margin_of : Window → Window → ℤ
@@ -21,5 +20,5 @@ module _ (file : List ℕ) (first second : ℕ) where
   unfoldable pub margin_questions : List Question
   margin_questions = plan_questions file ++ position_questions first second (window_count file)
 
-  unfoldable pub margin_answer_of : MarginAnswer
-  margin_answer_of = first_no margin_questions Refused (Margin margin_between)
+  unfoldable pub margin_answer_of : Result ℤ Refusal
+  margin_answer_of = first_no margin_questions Err (Ok margin_between)

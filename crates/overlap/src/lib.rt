@@ -4,5 +4,5 @@
 mod margins;
 mod overlaps;
 
-pub use margins::{MarginAnswer, margin, window_margin};
+pub use margins::{margin, window_margin};
 pub use overlaps::reaches;

@@ -2,7 +2,9 @@
 -- Vocabulary: Climbing.
 -- Assumes nothing.
 use Prim.Native.Nat.{ℕ, suc, ◌+◌, ◌-◌, ◌≤◌, ◌<◌}
-use mathlib.Core.{Bool.Bool, Path.◌≡◌, Path.sym, Path.◌∙◌, Logic.⊎_elim, List.List}
+use mathlib.Core.{Bool.Bool, Bool.true, Bool.false, Path.◌≡◌, Path.sym, Path.◌∙◌, Logic.⊎_elim, List.List}
+use Rattle.std.specs.Prelude.{Some, None}
+use Rattle.std.proofs.lemmas.Grind.{common_steps}
 use native.Mathlib.Omega.{arith}
 use native.Mathlib.Numerals.{add-one}
 use lib.Dec.{leb}
@@ -14,23 +16,13 @@ use Rattle.interval_graph.specs.Walk.{climb}
 use Rattle.interval_graph.proofs.Parent.{parent_le, tree}
 use Rattle.interval_graph.proofs.Ancestor.{ancestor_zero, ancestor_suc, ancestor_add}
 use Rattle.interval_graph.proofs.Depth.{fixed_stays}
-use lib.ListN.{length, get_or}
 use Rattle.plan.specs.File.{window_count}
+use Rattle.plan.specs.Validation.{AcceptedPlan}
 use Rattle.overlap.specs.Overlap.{overlaps}
-use Rattle.plan.specs.Validation.{greatest_count}
-use Rattle.plan.proofs.Accepted.{accepted_sound}
-use Rattle.path.specs.Steps.{Parented}
-
--- What the walk is handed: few windows, and an entry for each, which is its parent.
-module _ {file parents : List ℕ} (p : Parented file parents) where
-  pub handed_few : window_count file ≤ greatest_count
-  handed_few = (accepted_sound file p.accepted).few
-
-  pub handed_long : window_count file ≤ length parents
-  handed_long = p.held.long
-
-  pub handed_parent : (v : ℕ) → v < window_count file → get_or parents v 0 ≡ parent (overlaps file) v
-  handed_parent v h = p.held.at v h
+use Rattle.minutes.specs.Tables.{parent_of, last_of}
+use Rattle.minutes.specs.Rooted.{above}
+use Rattle.minutes.proofs.Reached.{reached, behind_last, not_behind}
+use Rattle.path.specs.Steps.{steps_up}
 
 -- The way up before a test: where it stands, that each step lowered the position, and that every window so far stands
 -- behind the last of the earlier one.
@@ -77,3 +69,35 @@ module _ (n : ℕ) (overlaps : ℕ → ℕ → Bool) (u v : ℕ) where
         stays j h =
             let e : j ≡ (j - steps) + steps = omega arith in
             rw (e, ancestor_add (tree overlaps) (j - steps) steps v, ← s.stands, fixed_stays (tree overlaps) (j - steps) at (sym root)) past
+
+-- The same in an accepted plan, by the one test of overlap and the parents of its windows.
+module _ (file : List ℕ) (ok : AcceptedPlan file) (u v : ℕ) (own : u < window_count file) (within : v < window_count file)
+    (at steps : ℕ) (s : Climbing (window_count file) (overlaps file) u v at steps) where
+  past : reached file u at ≡ false → last (window_count file) (overlaps file) u < at
+  unfolding last_of
+  past far = behind_last file ok u own at (omega (arith, s.fell)) far
+
+  pub climbs_on : (up : ℕ) → reached file u at ≡ false → Some up ≡ above file at →
+      Climbing (window_count file) (overlaps file) u v up (steps + 1)
+  unfolding parent_of
+  climbs_on up far e =
+      let i : at < window_count file = omega (arith, s.fell) in
+      let up_is : up ≡ parent (overlaps file) at = grind (arith, common_steps) in
+      let less : up < at = grind (arith, common_steps) in
+      climbing_turn (window_count file) (overlaps file) u v at steps s up (past far) up_is (λ same. omega arith)
+
+  pub climbs_out : reached file u at ≡ false → None ≡ above file at → steps_up file u v ≡ None
+  unfolding parent_of
+  climbs_out far e =
+      let i : at < window_count file = omega (arith, s.fell) in
+      let le = parent_le (overlaps file) at in
+      let root : at ≡ parent (overlaps file) at = grind (arith, common_steps) in
+      let many = climbing_root (window_count file) (overlaps file) u v at steps s (past far) root in
+      grind (arith, common_steps)
+
+  pub climbs_there : reached file u at ≡ true → steps_up file u v ≡ Some steps
+  unfolding last_of
+  climbs_there near =
+      let there = climbing_arrived (window_count file) (overlaps file) u v at steps s
+      (not_behind file ok u own at (omega (arith, s.fell)) near) in
+      let few = s.fell in grind (arith, common_steps)

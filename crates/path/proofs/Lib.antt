@@ -1,7 +1,7 @@
 -- Laws, in the order in which they rest on one another.
 --   Climbing    the way up from the later window
---   Walking     the chain by the number of its steps, and what is answered with it
---   Chaining    the answers of `chain` after each test
+--   Walking     the chain by the number of its steps, and the walk being written
+--   Chaining    the answer where a position is refused
 --   Meaning     what the answers say, in the paper's words
 --   Plan12      the paper's plan, computed
 pub mod Climbing

@@ -4,14 +4,13 @@ use mathlib.Core.{Path.◌≡◌, Path.refl, List.[], List.◌∷◌}
 use Rattle.interval_graph.specs.Walk.{climb, walk, chain_of}
 use Rattle.plan.proofs.Plan12.{file}
 use Rattle.overlap.proofs.Plan12.{meaning}
-use Rattle.path.specs.declared.answers.ChainAnswer.TheVariants.{Chain, NoChain, Refused}
-use Rattle.refusals.specs.Question.{refusal_by, refusal_from, from, position_question, position_questions, room_question}
-use Rattle.path.specs.Chain.{chain_between, chain_questions, chain_found, chain_answer_of}
+use Rattle.std.specs.Prelude.{Some, None, Ok, Err}
+use Rattle.refusals.specs.Question.{refusal_by, refusal_from}
+use Rattle.path.specs.Chain.{chain_between, chain_questions, chain_found, chain_in_of, chain_answer_of}
 
 -- What a computation on the file opens.
 unfoldable answers : Unit {0}
-unfolding meaning climb walk chain_of from position_question position_questions room_question chain_between chain_questions chain_found
-    chain_answer_of
+unfolding meaning climb walk chain_of chain_between chain_questions chain_found chain_in_of chain_answer_of
 answers = tt
 
 -- "0 to 5 is 3, chain 5 4 2 0 … 3 to 5 is 3, chain 5 4 2 3 … 1 to 3 is 2, chain 3 0 1 … 5 to 6: no chain."
@@ -28,7 +27,13 @@ unfolding answers
 plan_12_chain_level = refl
 
 -- In a table of four entries, in one of three, of two components, and of a position that the plan does not have.
-pub plan_12_answers : (chain_answer_of file 0 5 4 ≡ Chain 4) × (chain_answer_of file 0 5 3 ≡ Refused (refusal_by 8))
-    × (chain_answer_of file 5 6 0 ≡ NoChain) × (chain_answer_of file 6 7 9 ≡ Refused (refusal_from 1 (refusal_by 7)))
+pub plan_12_answers : (chain_answer_of file 0 5 4 ≡ Ok (Some 4)) × (chain_answer_of file 0 5 3 ≡ Err (refusal_by 8))
+    × (chain_answer_of file 5 6 0 ≡ Ok None) × (chain_answer_of file 6 7 9 ≡ Err (refusal_from 1 (refusal_by 7)))
 unfolding answers
 plan_12_answers = (refl, refl, refl, refl)
+
+-- The same from the plan with its parents.
+pub plan_12_chain_in : (chain_in_of file 0 5 4 ≡ Ok (Some 4)) × (chain_in_of file 0 5 3 ≡ Err (refusal_by 8))
+    × (chain_in_of file 5 6 0 ≡ Ok None) × (chain_in_of file 6 7 9 ≡ Err (refusal_from 1 (refusal_by 7)))
+unfolding answers
+plan_12_chain_in = (refl, refl, refl, refl)

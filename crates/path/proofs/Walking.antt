@@ -1,36 +1,33 @@
 -- The chain between two windows by the number of windows that stand on it before the earlier one; and the answer after each
 -- test of the call, over plain numbers and lists.
--- Vocabulary: Stepping.
+-- Vocabulary: stands, walking, between.
 -- Assumes nothing.
 use Prim.Native.Nat.{ℕ, suc, ◌+◌, ◌≤◌, ◌<◌, min, max}
-use mathlib.Core.{Path.◌≡◌, Path.refl, Path.sym, Path.ap, Path.◌∙◌, Logic.⊎_elim, List.List, List.[], List.◌∷◌}
+use mathlib.Core.{Path.◌≡◌, Path.refl, Path.sym, Path.ap, Path.◌∙◌, Logic.⊎_elim, List.List, List.[], List.◌∷◌, List.◌++◌, List.append_assoc}
+use Rattle.std.specs.Prelude.{Some, None, Ok, Err, unwrap_or}
+use Rattle.std.proofs.lemmas.Grind.{common_steps}
 use native.Mathlib.Omega.{arith}
 use native.Mathlib.Numerals.{add-one}
-use lib.ListN.{length, set, length-append}
+use lib.ListN.{length, get_or, set, take, drop, length-append, length-take, drop_of_length-le}
 use borrow.Author.Tests.{eq-eqb, ne_eqb, le-leb, lt-leb}
-use Rattle.sequences.specs.Table.{table, overwritten}
-use Rattle.sequences.proofs.Tests.{equal_or_not}
-use Rattle.sequences.proofs.Table.{length_table}
-use Rattle.sequences.proofs.Appending.{Written, written_none, written_more}
+use Rattle.sequences.specs.Table.{table, overwritten, Holds}
+use Rattle.sequences.proofs.Tests.{lt_or_ge, equal_or_not}
+use Rattle.sequences.proofs.Table.{length_table, length_overwritten, overwritten_table, table_turn}
+use Rattle.sequences.proofs.Appending.{written_more}
 use Rattle.interval_graph.specs.Tree.{parent, ancestor}
 use Rattle.interval_graph.specs.Walk.{climb, walk}
-use Rattle.interval_graph.proofs.Parent.{tree}
+use Rattle.interval_graph.proofs.Parent.{parent_le, tree}
 use Rattle.interval_graph.proofs.Ancestor.{ancestor_zero, ancestor_suc, ancestor_le}
-use Rattle.interval_graph.proofs.ShortestChain.{chain_same, chain_walk, chain_none}
-use Rattle.refusals.specs.Question.{refusal_by, question, room_question, first_no}
+use Rattle.interval_graph.proofs.ShortestChain.{chain_same, chain_walk, chain_none, chain_symmetric}
+use Rattle.refusals.specs.Question.{refusal_by}
 use Rattle.plan.specs.File.{window_count}
 use Rattle.overlap.specs.Overlap.{overlaps}
-use Rattle.path.specs.declared.answers.ChainAnswer.TheVariants.{Chain, NoChain, Refused}
-use Rattle.path.specs.Steps.{steps_before, walked, chain_rest}
+use Rattle.minutes.specs.Tables.{parent_of}
+use Rattle.minutes.specs.Rooted.{above}
+use Rattle.path.specs.Steps.{steps_before, steps_found, walked, chain_rest}
 use Rattle.path.specs.Chain.{chain_between, chain_found, after_chain}
 
 module _ (file : List ℕ) (u v : ℕ) where
-  pub steps_none : u ≡ v → 0 ≡ steps_before file u v
-  steps_none e = rw (eq-eqb u v e)
-
-  pub steps_some : (r : ℕ) → (u ≡ v → ⊥) → r ≡ climb (window_count file) (overlaps file) u v → r + 1 ≡ steps_before file u v
-  steps_some r d e = rw (ne_eqb u v d) (omega arith)
-
   module _ (steps : ℕ) (before : u ≤ v) (e : steps ≡ steps_before file u v) where
     -- More steps than there are windows up to v lead nowhere.
     pub between_apart : v + 1 < steps → chain_between file u v ≡ []
@@ -60,59 +57,83 @@ module _ (file : List ℕ) (u v : ℕ) where
         rw (between_walked h)
         (omega (arith, length-append (table (λ i. ancestor (overlaps file) i v) steps) (u ∷ []), length_table (λ i. ancestor (overlaps file) i v) steps))
 
--- The walk being written, before a step: where it stands, and what is written.
-pub record Stepping (file : List ℕ) (v steps : ℕ) (before now : List ℕ) (at step : ℕ) : Type 0 where
-  pub within : step ≤ steps
-  pub stands : at ≡ ancestor (overlaps file) step v
-  pub list : Written before now (table (λ i. ancestor (overlaps file) i v) step)
+  -- By what was counted.
+  module _ (before : u ≤ v) where
+    pub found_none : steps_found file u v ≡ None → chain_between file u v ≡ []
+    found_none e = between_apart (steps_before file u v) before refl (grind (arith, common_steps))
 
-module _ (file : List ℕ) (v steps : ℕ) (before : List ℕ) where
-  pub stepping_start : Stepping file v steps before before v 0
-  unfolding table
-  stepping_start = record { within = omega arith; stands = sym (ancestor_zero (tree (overlaps file)) v); list = written_none before }
+    module _ (steps : ℕ) (e : steps_found file u v ≡ Some steps) where
+      few : (steps ≡ steps_before file u v) × (steps ≤ v + 1)
+      few = grind (arith, common_steps)
 
-  module _ (now : List ℕ) (at step : ℕ) (s : Stepping file v steps before now at step) where
-    -- The walk never stands behind the later window.
-    pub stepping_low : at ≤ v
-    stepping_low = omega (arith, s.stands, ancestor_le (tree (overlaps file)) step v)
+      pub found_few : steps ≤ v + 1
+      found_few = few.1
 
-    pub stepping_turn : (up : ℕ) → step < steps → steps < length before → up ≡ parent (overlaps file) at →
-        Stepping file v steps before (set now step at) up (step + 1)
-    unfolding table
-    stepping_turn up h room e =
-        record {
-          within = omega arith;
-          stands = rw (add-one step, ancestor_suc (tree (overlaps file)) step v, ← s.stands) e;
-          list = rw (add-one step, ← s.stands)
-              (written_more before now (table (λ i. ancestor (overlaps file) i v) step) step at
-              (sym (length_table (λ i. ancestor (overlaps file) i v) step)) (omega arith) s.list);
-        }
+      pub found_walked : chain_between file u v ≡ walked file u v steps
+      found_walked = between_walked steps before few.0 few.1
 
-    pub stepping_end : (u : ℕ) → steps ≤ step → steps < length before → set now step u ≡ overwritten before (walked file u v steps)
-    stepping_end u done room =
-        let e : step ≡ steps = omega (arith, s.within) in
-        rw e
-        (written_more before now (table (λ i. ancestor (overlaps file) i v) steps) steps u
-        (sym (length_table (λ i. ancestor (overlaps file) i v) steps)) room (rw e at s.list)).written
+      pub found_length : length (chain_between file u v) ≡ steps + 1
+      found_length = sym (between_length steps before few.0 few.1)
 
--- The answer that is left, by the chain, and the table afterwards.
-module _ (chain before : List ℕ) where
-  pub rest_none : chain ≡ [] → (NoChain ≡ chain_rest chain (length before)) × (before ≡ after_chain NoChain chain before)
-  unfolding first_no room_question question chain_found after_chain
-  rest_none e = (rw (e, le-leb 0 (length before) (omega arith)), refl)
+  -- The chain is the same in either order of naming.
+  pub between_ordered : chain_between file (min u v) (max u v) ≡ chain_between file u v
+  unfolding chain_between
+  between_ordered =
+      ⊎_elim (λ h. let p : min u v ≡ u = omega arith in let q : max u v ≡ v = omega arith in rw (p, q) refl)
+      (λ h. let p : min u v ≡ v = omega arith in let q : max u v ≡ u = omega arith in
+      rw (p, q) (chain_symmetric (window_count file) (overlaps file) v u)) (lt_or_ge u v)
 
-  pub rest_short : length before < length chain → (Refused (refusal_by 8) ≡ chain_rest chain (length before))
-      × (before ≡ after_chain (Refused (refusal_by 8)) chain before)
-  unfolding first_no room_question question after_chain
-  rest_short h = (rw (lt-leb (length chain) (length before) h), refl)
-
-found_some : (chain : List ℕ) → 0 < length chain → Chain (length chain) ≡ chain_found chain
+pub chain_some : (chain : List ℕ) (n : ℕ) → length chain ≡ n + 1 → chain_found chain ≡ Ok (Some (n + 1))
 unfolding chain_found
-found_some [] h = absurd (omega arith)
-found_some (x ∷ l) h = refl
+chain_some [] n e = absurd (omega arith)
+chain_some (x ∷ l) n e = rw e refl
 
-pub rest_written : (chain before after : List ℕ) (entries : ℕ) → entries ≡ length chain → 0 < entries → length chain ≤ length before →
-    after ≡ overwritten before chain → (Chain entries ≡ chain_rest chain (length before)) × (after ≡ after_chain (Chain entries) chain before)
-unfolding first_no room_question question after_chain
-rest_written chain before after entries e some fits w =
-    (rw (le-leb (length chain) (length before) fits, e) (found_some chain (omega arith)), w)
+pub ruleset between = (found_none, found_few, found_walked, found_length, chain_some)
+
+-- The walk being written: v and the windows above it, as many as so far.
+module _ (file : List ℕ) (v : ℕ) where
+  abbrev pub stands : ℕ → ℕ
+  stands i = ancestor (overlaps file) i v
+
+  -- It never stands behind v.
+  pub stands_low : (step : ℕ) → stands step ≤ v
+  stands_low step = ancestor_le (tree (overlaps file)) step v
+
+  pub stands_first : stands 0 ≡ v
+  stands_first = ancestor_zero (tree (overlaps file)) v
+
+  -- The next stands where the entry says.
+  pub stands_next : (parents : List ℕ) → Holds parents (parent_of file) (window_count file) → (step at : ℕ) → at ≡ stands step →
+      at < window_count file → get_or parents at 0 ≡ stands (step + 1)
+  unfolding parent_of
+  stands_next parents held step at e h = rw (held.at at h, add-one step, ancestor_suc (tree (overlaps file)) step v, e) refl
+
+module _ (f : ℕ → ℕ) (before : List ℕ) where
+  pub written_first : overwritten before (table f 0) ≡ before
+  unfolding table overwritten
+  written_first = refl
+
+  -- One entry more,
+  pub written_next : (step x : ℕ) → step < length before → x ≡ f step →
+      set (overwritten before (table f step)) step x ≡ overwritten before (table f (step + 1))
+  written_next step x h e = rw (e, add-one step, overwritten_table, overwritten_table) (table_turn f before step h)
+
+  -- and one that stands behind those of a front that is full.
+  pub written_last : (index steps u : ℕ) → steps < length before → index ≡ length (take steps before) →
+      set (overwritten (take steps before) (table f index) ++ drop steps before) steps u ≡ overwritten before (table f steps ++ (u ∷ []))
+  written_last index steps u h full =
+      let all : index ≡ steps = omega (arith, length-take {A = ℕ}) in
+      let none : drop steps (take steps before) ≡ [] = drop_of_length-le (take steps before) (omega arith) in
+      let front : overwritten (take steps before) (table f steps) ++ drop steps before ≡ overwritten before (table f steps) =
+      rw (overwritten_table f steps (take steps before), overwritten_table f steps before, none, append_assoc) refl in
+      rw (all, front)
+      (written_more before (overwritten before (table f steps)) (table f steps) steps u (sym (length_table f steps)) h
+      (record { written = refl; long = length_overwritten before (table f steps) (omega (arith, length_table f steps)) })).written
+
+pub ruleset walking = (stands_low, stands_first, stands_next, written_first, written_next, written_last)
+
+-- A table that is too short for a chain is refused, and stays as it was.
+pub rest_short : (chain before : List ℕ) → length before < length chain → (Err (refusal_by 8) ≡ chain_rest chain (length before))
+    × (before ≡ after_chain (Err (refusal_by 8)) chain before)
+unfolding after_chain
+rest_short chain before h = (rw (lt-leb (length chain) (length before) h), refl)

@@ -1,75 +1,63 @@
 // The chain between two windows. It is counted first, so that nothing is written where it does not fit.
 ghost use Rattle.std.specs.Prelude.{◌≡◌, ◌≤◌, ◌<◌, length};
 ghost use Rattle.plan.specs.File.{window_count};
-ghost use Rattle.path.specs.Chain.{chain_between, chain_answer_of, after_chain};
-ghost use Rattle.path.specs.Steps.{Parented, chain_rest};
+ghost use Rattle.minutes.specs.Rooted.{plan_of};
+ghost use Rattle.path.specs.Chain.{chain_between, chain_answer_of, chain_in_of, after_chain};
+ghost use Rattle.path.specs.Steps.{chain_rest};
 
-use crate::answers::ChainAnswer;
 use crate::walk::{steps_before, write_walk};
-use minutes::TableAnswer;
-use plan::GREATEST_COUNT;
-use refusals::{Asked, Refusal};
+use minutes::Rooted;
+use plan::Plan;
+use refusals::{Question, Refusal};
 
-// The chain between two windows of an accepted plan, the earlier and the later, which may be one.
+// The chain between two windows, the earlier and the later, which may be one.
+#[tactic(auto, using(crate::proofs::Walking::between, plan::proofs::Acceptance::few_windows), unfolding(crate::specs::Chain::chain_found, crate::specs::Chain::after_chain))]
 fn write_between(
-    file: &[u8],
-    parents: &[u16],
+    tree: &Rooted,
     earlier: usize,
     later: usize,
     out: &mut [u16],
-) -> ChainAnswer
-    requires parented { Parented file.now parents.now }
+) -> Result<Option<u16>, Refusal>
     requires earlier_le_later { earlier ≤ later }
-    requires later_bound { later < window_count file.now }
-    ensures value { result ≡ chain_rest (chain_between file.now earlier later) (length out.old) }
-    ensures out_after { out.new ≡ after_chain result (chain_between file.now earlier later) out.old }
+    requires later_bound { later < window_count (plan_of tree.now) }
+    ensures value { result ≡ chain_rest (chain_between (plan_of tree.now) earlier later) (length out.old) }
+    ensures out_after { out.new ≡ after_chain result (chain_between (plan_of tree.now) earlier later) out.old }
 {
-    let steps = steps_before(file, parents, earlier, later);
-    if later + 1 < steps {
-        return ChainAnswer::NoChain;
-    }
-    if out.len() <= steps {
-        return ChainAnswer::Refused(Refusal::by(8));
-    }
-    write_walk(file, parents, earlier, later, steps, out);
-    let entries = (steps + 1) as u16;
-    ChainAnswer::Chain { entries }
+    let Some(steps) = steps_before(tree, earlier, later) else {
+        return Ok(None);
+    };
+    refusals::ask(Question::HasRoom, steps < out.len())?;
+    write_walk(tree, earlier, later, steps, out);
+    Ok(Some((steps + 1) as u16))
 }
 
-// The same between two positions, named in either order, which may be past the windows.
-fn chain_among(
-    file: &[u8],
-    windows: usize,
-    parents: &[u16],
+/// The chain between two windows of a plan whose parents are known: how many entries were written, the two windows among them, or none
+/// where no chain joins the two.
+#[tactic(auto, using(refusals::proofs::Questions::in_turn, crate::proofs::Walking::between_ordered), unfolding(crate::specs::Chain::chain_in_of, crate::specs::Chain::after_chain))]
+pub fn chain_in(
+    tree: &Rooted,
     first: usize,
     second: usize,
     out: &mut [u16],
-) -> ChainAnswer
-    requires parented { Parented file.now parents.now }
-    requires windows_value { windows ≡ window_count file.now }
-    ensures value { result ≡ chain_answer_of file.now first second (length out.old) }
-    ensures out_after { out.new ≡ after_chain result (chain_between file.now first second) out.old }
+) -> Result<Option<u16>, Refusal>
+    ensures value { result ≡ chain_in_of (plan_of tree.now) first second (length out.old) }
+    ensures out_after { out.new ≡ after_chain result (chain_between (plan_of tree.now) first second) out.old }
 {
-    let asked = refusals::ask_positions(first, second, windows);
-    if let Asked::Refused(refusal) = asked {
-        return ChainAnswer::Refused(refusal);
-    }
-    if first < second {
-        return write_between(file, parents, first, second, out);
-    }
-    write_between(file, parents, second, first, out)
+    refusals::ask_positions(first, second, tree.plan().len())?;
+    write_between(tree, first.min(second), first.max(second), out)
 }
 
-// The shortest chain between two windows that has the earliest window at each step, from the later to the earlier.
-pub fn chain(file: &[u8], first: usize, second: usize, out: &mut [u16]) -> ChainAnswer
+/// The shortest chain between two windows that has the earliest window at each step, from the later to the earlier.
+#[tactic(auto, using(refusals::proofs::Questions::in_turn), unfolding(crate::specs::Chain::chain_in_of, crate::specs::Chain::chain_questions, crate::specs::Chain::chain_answer_of, crate::specs::Chain::after_chain))]
+pub fn chain(
+    file: &[u8],
+    first: usize,
+    second: usize,
+    out: &mut [u16],
+) -> Result<Option<u16>, Refusal>
     ensures value { result ≡ chain_answer_of file.now first second (length out.old) }
     ensures out_after { out.new ≡ after_chain result (chain_between file.now first second) out.old }
 {
-    let mut parents = [0; GREATEST_COUNT];
-    match minutes::parent_table(file, &mut parents) {
-        TableAnswer::Filled { windows } => {
-            chain_among(file, windows as usize, &parents, first, second, out)
-        }
-        TableAnswer::Refused(refusal) => ChainAnswer::Refused(refusal),
-    }
+    let plan = Plan::new(file)?;
+    chain_in(&Rooted::new(plan), first, second, out)
 }

@@ -20,7 +20,8 @@ use Rattle.plan.specs.declared.windows.Window.{Window}
 use Rattle.plan.specs.File.{header_length, window_length, file_length, window_place, plan_number, window_count, minimum_place, minimum_handover}
 use Rattle.plan.specs.File.{window_of, window_at, header_bytes, window_bytes, file_of}
 use Rattle.plan.specs.Validation.{greatest_count, minimum_passes, offset_before, window_questions, file_questions, plan_questions}
-use Rattle.plan.proofs.{Reading.window_read, Validated.asked_with, Validated.windows_asked}
+use Rattle.plan.specs.Validation.{asked_with}
+use Rattle.plan.proofs.{Reading.window_read, Validated.windows_asked}
 
 pub length-window_bytes : (w : Window) → length (window_bytes w) ≡ window_length
 unfolding window_bytes bytes32
@@ -159,7 +160,7 @@ window_more file minimum v w later here =
 windows_asked_lem : (file : List ℕ) (minimum v : ℕ) (windows : List Window) (d : Window) →
     ((i : ℕ) → i < length windows → window_at file (v + i) ≡ get_or windows i d) →
     all_yes (each (asked_with minimum file) v (length windows)) ≡ windows_pass minimum (offset_before file v) windows
-unfolding windows_pass each all_yes
+unfolding windows_pass each
 windows_asked_lem file minimum v [] d reads = refl
 windows_asked_lem file minimum v (w ∷ later) d reads =
     let stay : v + 0 ≡ v = omega arith in let here : window_at file v ≡ w = rw stay at (reads 0 (omega arith)) in
@@ -171,12 +172,12 @@ windows_asked_lem file minimum v (w ∷ later) d reads =
 -- Of a file with as many bytes as its windows have, questions 2 and 14 alone are left of the first four.
 file_asked : (file : List ℕ) (n minimum : ℕ) → window_count file ≡ n → minimum_handover file ≡ minimum → length file ≡ file_length n →
     all_yes (file_questions file) ≡ (leb n greatest_count && minimum_passes minimum)
-unfolding file_questions question all_yes
+unfolding file_questions
 file_asked file n minimum counted read long =
     rw (counted, read, le-leb header_length (length file) (omega arith), eq-eqb (length file) (file_length n) long)
     (ap (λ t. leb n greatest_count && t) (and_true_right (minimum_passes minimum) true refl))
 
--- The file is that of an accepted plan exactly if it has few enough windows and a minimum that passes, and they pass.
+-- The file is that of an accepted_as plan exactly if it has few enough windows and a minimum that passes, and they pass.
 pub accepted-file_of : (plan minimum : ℕ) (windows : List Window) (d : Window) →
     all_yes (plan_questions (file_of plan minimum windows))
     ≡ ((leb (length windows) greatest_count && minimum_passes minimum) && windows_pass minimum 0 windows)

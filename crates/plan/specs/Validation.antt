@@ -1,12 +1,12 @@
 -- Paper 01, "Questions at the door", 1 to 6, and "Plan file": "A plan is accepted when its file meets no refusal in
 -- questions 1 to 6"; with 14 among them, of paper 02, Q-2. Where these crates say "questions 1 to 6" of a plan, 14 is meant too.
--- Vocabulary: greatest_count, greatest_minimum, greatest_end, minimum_passes, offset_before, own_questions, window_questions, file_questions,
--- plan_questions, AcceptedPlan, validate_answer_of.
-use Rattle.std.specs.Prelude.{ℕ, zero, suc, Bool, true, ◌&&◌, ◌≡◌, List, [], ◌∷◌, ◌++◌, length, leb, eqb}
+-- Vocabulary: greatest_count, greatest_minimum, greatest_end, minimum_passes, offset_before, own_questions, window_questions, asked_with,
+-- accepted_as, file_questions, plan_questions, AcceptedPlan, validate_answer_of.
+use Rattle.std.specs.Prelude.{ℕ, zero, suc, Bool, true, ◌&&◌, ◌≡◌, List, [], ◌∷◌, ◌++◌, length, leb, eqb, Result, Ok, Err}
+use Rattle.refusals.specs.declared.refusal.Refusal.{Refusal}
 use Rattle.refusals.specs.Question.{Question, question, each, all_yes, first_no}
 use Rattle.plan.specs.declared.windows.Window.{Window}
-use Rattle.plan.specs.declared.questions.Validation.{Validation}
-use Rattle.plan.specs.declared.questions.Validation.TheVariants.{Accepted, Refused}
+use Rattle.plan.specs.declared.questions.Accepted.{Accepted}
 use Rattle.plan.specs.File.{header_length, file_length, plan_number, window_count, minimum_handover, window_at, end_of}
 
 abbrev pub greatest_count : ℕ
@@ -38,6 +38,14 @@ own_questions minimum w = question 4 (leb minimum w.length) ∷ question 5 (leb 
 unfoldable pub window_questions : (minimum before : ℕ) → Window → List Question
 window_questions minimum before w = own_questions minimum w ++ (question 6 (leb before w.offset) ∷ [])
 
+-- Of the window at a position of a file.
+abbrev pub asked_with : (minimum : ℕ) → List ℕ → ℕ → List Question
+asked_with minimum file v = window_questions minimum (offset_before file v) (window_at file v)
+
+-- What is said of an accepted plan.
+abbrev pub accepted_as : (plan windows : ℕ) → Result Accepted Refusal
+accepted_as plan windows = Ok (record { plan = plan; windows = windows })
+
 module _ (file : List ℕ) where
   -- "1. Has the file at least" 8 "bytes?
   --  2. Is n at most 2,048?", "14, …, after 2",
@@ -53,12 +61,12 @@ module _ (file : List ℕ) where
   -- "Then, window after window:" 4, 5 and 6.
   unfoldable pub plan_questions : List Question
   plan_questions =
-      file_questions ++ each (λ v. window_questions (minimum_handover file) (offset_before file v) (window_at file v)) 0 (window_count file)
+      file_questions ++ each (asked_with (minimum_handover file) file) 0 (window_count file)
 
   -- The file is that of an accepted plan: none of these questions is answered "no".
   abbrev pub AcceptedPlan : Type 0
   AcceptedPlan = all_yes plan_questions ≡ true
 
   -- The answer for every file: the first "no", or accepted with the plan number and n.
-  unfoldable pub validate_answer_of : Validation
-  validate_answer_of = first_no plan_questions Refused (Accepted (plan_number file) (window_count file))
+  unfoldable pub validate_answer_of : Result Accepted Refusal
+  validate_answer_of = first_no plan_questions Err (accepted_as (plan_number file) (window_count file))

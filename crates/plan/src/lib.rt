@@ -3,10 +3,12 @@
 
 mod figures;
 mod header;
+mod plan_file;
 mod questions;
 mod windows;
 
 pub use figures::{GREATEST_COUNT, GREATEST_END, HEADER_LENGTH, WINDOW_LENGTH};
 pub use header::{minimum_handover, write_header};
-pub use questions::{Validation, ask_own, validate};
-pub use windows::{Window, read_window, window_at, window_end, window_place, write_window};
+pub use plan_file::Plan;
+pub use questions::{Accepted, validate};
+pub use windows::{Window, window_at, window_place};

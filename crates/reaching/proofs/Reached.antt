@@ -38,7 +38,7 @@ use Rattle.plan.specs.{File.window_count, Validation.greatest_count, Validation.
 use Rattle.overlap.specs.Overlap.{overlaps}
 use Rattle.plan.specs.AcceptedWindows.{AcceptedWindows}
 use Rattle.plan.proofs.Calls.{plan_refused, one_more_no, one_more_yes}
-use Rattle.plan.proofs.{Counted.windows_few, Accepted.accepted_validated}
+use Rattle.plan.proofs.{Counted.windows_few, Acceptance.accepted_validated}
 use Rattle.overlap.proofs.Counted.{windows_order}
 use Rattle.minutes.specs.Tables.{last_of, parent_of}
 use Rattle.reaching.specs.declared.answers.ReachAnswer.{ReachAnswer}

@@ -210,5 +210,31 @@ module _ (first second windows : ℕ) where
       let qs = position_questions first second windows in let all = all_member qs (passed_all qs e) in
       (ltb-true _ _ (all _ (Memᴰ.head refl)), ltb-true _ _ (all _ (Memᴰ.tail (Memᴰ.head refl))))
 
+-- Questions window after window, from the one at v on: none is left, or those about v come first.
+module _ (questions : ℕ → List Question) (v n : ℕ) where
+  pub left_none : n ≤ v → asked_of (each questions v (n - v)) ≡ Ok tt
+  unfolding each
+  left_none h = let e : n - v ≡ 0 = omega arith in rw (e, each) refl
+
+  left_more : v < n → each questions v (n - v) ≡ about v (questions v) ++ each questions (v + 1) (n - (v + 1))
+  unfolding each
+  left_more h = let e : n - v ≡ suc (n - (v + 1)) = omega arith in rw (e, each, add-one) refl
+
+  pub left_passed : v < n → asked_of (about v (questions v)) ≡ Ok tt →
+      asked_of (each questions v (n - v)) ≡ asked_of (each questions (v + 1) (n - (v + 1)))
+  left_passed h passed = rw (left_more h) (after_passed (about v (questions v)) Err (Ok tt) passed (each questions (v + 1) (n - (v + 1))))
+
+  pub left_refused : (r : Refusal) → v < n → asked_of (about v (questions v)) ≡ Err r → asked_of (each questions v (n - v)) ≡ Err r
+  left_refused r h refused = rw (left_more h) (after_refused (about v (questions v)) Err (Ok tt) r refused (each questions (v + 1) (n - (v + 1))))
+
+pub ruleset window_after_window = (left_none, left_passed, left_refused)
+
+-- What was asked and passed is answered "yes", and the other way round.
+pub asked_yes : (qs : List Question) → asked_of qs ≡ Ok tt → all_yes qs ≡ true
+asked_yes qs e = passed_all qs (sym e)
+
+pub yes_asked : (qs : List Question) → all_yes qs ≡ true → asked_of qs ≡ Ok tt
+yes_asked qs t = all_first qs Err (Ok tt) t
+
 -- For functions that ask in turn: a question after others, or none after them.
-pub ruleset in_turn = (after_passed, after_refused, all_passed, one_refused)
+pub ruleset in_turn = (after_passed, after_refused, all_passed, one_refused, asked_yes, yes_asked)

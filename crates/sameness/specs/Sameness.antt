@@ -1,14 +1,13 @@
--- Paper 01, "Calls on a plan": "Two plans are the same when they have equal n and the same pairs of positions overlap".
+-- When two plans are the same: "when they have equal n and the same pairs of positions overlap".
 -- Vocabulary: same_pairs, same_overlap, same_questions, same_answer_of.
-use Rattle.std.specs.Prelude.{ℕ, Bool, cond, ◌&&◌, List, ◌++◌, eqb}
+use Rattle.std.specs.Prelude.{ℕ, Bool, ◌&&◌, List, ◌++◌, eqb, Result, Ok, Err}
 use Rattle.std.specs.Bool.{beq}
 use Rattle.sequences.specs.Search.{every}
+use Rattle.refusals.specs.declared.refusal.Refusal.{Refusal}
 use Rattle.refusals.specs.Question.{Question, from, first_no}
 use Rattle.plan.specs.File.{window_count}
 use Rattle.overlap.specs.Overlap.{overlaps}
 use Rattle.plan.specs.Validation.{plan_questions}
-use Rattle.sameness.specs.declared.SameAnswer.{SameAnswer}
-use Rattle.sameness.specs.declared.SameAnswer.TheVariants.{Same, Different, Refused}
 
 -- Two overlap tests agree on all pairs of positions below n.
 unfoldable pub same_pairs : ℕ → (first second : ℕ → ℕ → Bool) → Bool
@@ -23,5 +22,5 @@ same_overlap first second =
 unfoldable pub same_questions : (first second : List ℕ) → List Question
 same_questions first second = plan_questions first ++ from 1 (plan_questions second)
 
-unfoldable pub same_answer_of : (first second : List ℕ) → SameAnswer
-same_answer_of first second = first_no (same_questions first second) Refused (cond (same_overlap first second) Same Different)
+unfoldable pub same_answer_of : (first second : List ℕ) → Result Bool Refusal
+same_answer_of first second = first_no (same_questions first second) Err (Ok (same_overlap first second))

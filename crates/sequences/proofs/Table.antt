@@ -1,4 +1,5 @@
--- Laws of `table` and `overwritten`: what a pass that writes a table from the front needs.
+-- Laws of `table` and `overwritten`: what a pass that writes a table from the front needs. `by_table` has those by which a tactic finds
+-- a turn of such a pass by itself.
 -- Assumes nothing.
 use Prim.Native.Nat.{ℕ, zero, suc, ◌+◌, ◌-◌, ◌≤◌, ◌<◌}
 use mathlib.Core.Path.{◌≡◌, refl, sym, ap, ◌∙◌}
@@ -6,6 +7,8 @@ use mathlib.Core.{Logic.⊎_elim, List.List, List.[], List.◌∷◌, List.◌++
 use native.Mathlib.{Omega.arith, Numerals.add-one}
 use lib.ListN.{length, get_or, take, drop, set, length-append, length-drop, length-set, get_or-append}
 use lib.Seq.{set_at, drop-cons, take_at, drop_at, get_or_at, get_or-drop, get_or-append-add}
+use Rattle.std.proofs.Math.Nat.{add-zero}
+use Rattle.std.proofs.lemmas.List.{append-nil, drop-take}
 use Rattle.sequences.specs.Table.{table, overwritten, Holds}
 use Rattle.sequences.proofs.Tests.{lt_or_ge}
 
@@ -63,6 +66,32 @@ module _ {A : Type 0} where
   pub overwritten_again : (l first second : List A) → length first ≡ length second → overwritten (overwritten l first) second ≡ overwritten l second
   unfolding overwritten
   overwritten_again l first second e = rw (drop_at first (drop (length first) l) (length second) e, e)
+
+module _ {A : Type 0} (f : ℕ → A) (l : List A) where
+  -- Nothing is written yet.
+  pub overwritten_none : overwritten l (table f 0) ≡ l
+  unfolding overwritten table
+  overwritten_none = refl
+
+  -- One store more, of an entry that is f's.
+  pub overwritten_next : (v : ℕ) (x : A) → v < length l → x ≡ f v → set (overwritten l (table f v)) v x ≡ overwritten l (table f (v + 1))
+  overwritten_next v x h same = rw (same, add-one v, overwritten_table f v l, overwritten_table f (suc v) l) (table_turn f l v h)
+
+  pub length_overwritten_table : (v : ℕ) → v ≤ length l → length (overwritten l (table f v)) ≡ length l
+  length_overwritten_table v h = length_overwritten l (table f v) (omega (arith, length_table f v))
+
+  -- An entry that is written.
+  pub overwritten_at : (v k : ℕ) (d : A) → k < v → get_or (overwritten l (table f v)) k d ≡ f k
+  overwritten_at v k d h =
+      rw (overwritten_table f v l) (get_or-append (table f v) (drop v l) d k (omega (arith, length_table f v)) ∙ get_or-table f v k d h)
+
+  -- Where only the front was handed over, and the rest stood by.
+  pub overwritten_front : (n : ℕ) → overwritten (take n l) (table f n) ++ drop n l ≡ overwritten l (table f n)
+  overwritten_front n =
+      let none : drop n (take n l) ≡ [] = rw add-zero at (drop-take n 0 l) in
+      rw (overwritten_table f n (take n l), overwritten_table f n l, none, append-nil)
+
+pub ruleset by_table = (overwritten_none, overwritten_next, length_overwritten_table, overwritten_at, overwritten_past)
 
 -- A table of n entries that a pass is writing from the front, before the entry v: the entries before it are f's, the rest is
 -- as it was.

@@ -6,11 +6,14 @@ ghost use Rattle.numbering.specs.Numbering.{after_build};
 ghost use Rattle.tree.specs.Build.{build_answer_of, tags_answer_of, after_tags};
 
 use crate::tagging::write_tags;
-use numbering::BuildAnswer;
+use numbering::Built;
 use plan::GREATEST_COUNT;
-use tag_bytes::Tag;
+use refusals::Refusal;
+use tag_bytes::{Label, Tag};
 
-// The five tables and the tag file of a plan.
+/// The five tables and the tag file of a plan.
+// The tables are lent one by one, as C lends them: of a struct of six a clause could name a table by its place alone.
+#[tactic(auto, using(crate::proofs::Answered::build_answered), unfolding(numbering::specs::Numbering::after_build, crate::specs::Build::after_tags))]
 pub fn build(
     file: &[u8],
     parents: &mut [u16],
@@ -19,7 +22,7 @@ pub fn build(
     ranks: &mut [u16],
     last_ranks: &mut [u16],
     tags: &mut [u8],
-) -> BuildAnswer
+) -> Result<Built, Refusal>
     ensures value { result ≡ build_answer_of file.now (length parents.old) (length components.old) (length depths.old) (length ranks.old) (length last_ranks.old) (length tags.old) }
     ensures parents_after { parents.new ≡ after_build result (parent_of file.now) parents.old }
     ensures components_after { components.new ≡ after_build result (component_of file.now) components.old }
@@ -29,23 +32,17 @@ pub fn build(
     ensures tags_after { tags.new ≡ after_tags result (numbers_at file.now) tags.old }
 {
     let room = tags.len() / Tag::LENGTH;
-    let answer = numbering::fill_numbers(
+    let built = numbering::fill_numbers(
         file, room, parents, components, depths, ranks, last_ranks,
-    );
-    if let BuildAnswer::Built {
-        plan,
-        windows,
-        components: _,
-    } = answer
-    {
-        let n = windows as usize;
-        write_tags(n, plan, components, depths, ranks, last_ranks, tags);
-    }
-    answer
+    )?;
+    let n = usize::from(built.windows);
+    write_tags(n, built.plan, components, depths, ranks, last_ranks, tags);
+    Ok(built)
 }
 
-// The tag file of a plan alone, for callers who do not want the tables.
-pub fn tag_file(file: &[u8], tags: &mut [u8]) -> BuildAnswer
+/// The tag file of a plan alone, for callers who do not want the tables.
+#[tactic(auto, using(crate::proofs::Answered::tags_built))]
+pub fn tag_file(file: &[u8], tags: &mut [u8]) -> Result<Built, Refusal>
     ensures value { result ≡ tags_answer_of file.now (length tags.old) }
     ensures tags_after { tags.new ≡ after_tags result (numbers_at file.now) tags.old }
 {

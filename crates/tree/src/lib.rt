@@ -5,5 +5,5 @@ mod building;
 mod tagging;
 
 pub use building::{build, tag_file};
-pub use minutes::{TableAnswer, last_table, parent_table};
-pub use numbering::BuildAnswer;
+pub use minutes::{last_table, parent_table};
+pub use numbering::Built;

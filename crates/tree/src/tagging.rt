@@ -5,8 +5,10 @@ ghost use Rattle.tag_bytes.specs.Fields.{tag_length};
 ghost use Rattle.tag_bytes.specs.TagFile.{tag_file};
 ghost use Rattle.tree.specs.Tagging.{numbers_in, Numbered};
 
-use tag_bytes::Tag;
+use tag_bytes::{Label, Tag};
 
+// Short tags are written by a twin of this, in `even_tags`: from three tables, and not from four. One function for both would be public, and
+// would have to take a closure and require of it that it may be called, where every public call here takes whatever it is given.
 pub(crate) fn write_tags(
     windows: usize,
     plan: u16,
@@ -20,17 +22,14 @@ pub(crate) fn write_tags(
     requires windows_in_bounds { tag_length * windows ≤ length tags.old }
     ensures { tags.new ≡ overwritten tags.old (tag_file (numbers_in plan components.now depths.now ranks.now last_ranks.now) windows) }
 {
-    let mut position = 0;
-    while position < windows {
-        let at = Tag::LENGTH * position;
-        tag_bytes::write(
+    for position in 0..windows {
+        let tag = Tag {
             plan,
-            components[position],
-            depths[position],
-            ranks[position],
-            last_ranks[position],
-            &mut tags[at..],
-        );
-        position += 1;
+            component: components[position],
+            depth: depths[position],
+            rank: ranks[position],
+            last: last_ranks[position],
+        };
+        tag.write(&mut tags[Tag::LENGTH * position..]).unwrap();
     }
 }

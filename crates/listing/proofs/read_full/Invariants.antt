@@ -1,9 +1,9 @@
--- As many bytes came as the buffer holds, at most.
+-- No more is filled than the buffer holds, and each read that is not the last fills more of it.
 use Rattle.std.proofs.Common.{length, ◌-◌, ◌≤◌}
 use Rattle.listing.proofs.read_full.Given as goal
 
-abbrev pub invariant-loop-done : goal.invariant-loop-done
-invariant-loop-done g l = l.done ≤ length l.buffer
+abbrev pub invariant-loop-more : goal.invariant-loop-more
+invariant-loop-more g l = l.filled ≤ length l.buffer
 
-abbrev pub decreases-loop-done : goal.decreases-loop-done
-decreases-loop-done g l = length l.initial.buffer - l.done
+abbrev pub decreases-loop-more : goal.decreases-loop-more
+decreases-loop-more g l = length l.initial.buffer - l.filled

@@ -1,7 +1,7 @@
 -- `changing::writing::write_without` meets its contract: the header, the bytes before the window's place, and the bytes behind the window.
 use native.Mathlib.Omega.{arith}
 use Rattle.plan.specs.File.{window_count}
-use Rattle.plan.proofs.Accepted.{accepted_sound}
+use Rattle.plan.proofs.Acceptance.{accepted_sound}
 use Rattle.changing.proofs.Written.{without_written, without_long, without_room}
 use Rattle.changing.proofs.writing.write_without.Goals as goal
 

@@ -1,10 +1,7 @@
-use Prim.Native.Nat.{◌-◌}
-use Rattle.sequences.proofs.Table.{Filling}
+use Rattle.std.proofs.Common.{◌≡◌, take}
+use Rattle.sequences.specs.Table.{table, overwritten}
 use Rattle.forest.specs.Parents.{looked_up}
 use Rattle.forest.proofs.lookups.look_up.Given as goal
 
-abbrev pub invariant-loop-position : goal.invariant-loop-position
-invariant-loop-position l = Filling (looked_up l.from l.initial.places) l.end l.initial.places l.places l.position
-
-abbrev pub decreases-loop-position : goal.decreases-loop-position
-decreases-loop-position l = l.end - l.position
+abbrev pub invariant-loop-place : goal.invariant-loop-place
+invariant-loop-place l = l.place-items ≡ overwritten (take l.end l.fn.places) (table (looked_up l.from l.fn.places) l.place-index)

@@ -1,11 +1,11 @@
--- `minutes::lasts::fill_lasts` meets its contract: the offsets are read into a table that holds every accepted plan's, and then the pass
--- fills its own.
-use Rattle.plan.proofs.Counted.{windows_few}
+-- The offsets are read into a table that holds every accepted plan's, and then the pass fills its own.
+use Rattle.std.proofs.Common.{refl}
+use Rattle.plan.proofs.Acceptance.{few_windows}
 use Rattle.minutes.proofs.Reading.{prepared_read}
 use Rattle.minutes.proofs.lasts.fill_lasts.Goals as goal
 
-pub read_offsets-requires-clause-windows_in_bounds : goal.read_offsets-requires-clause-windows_in_bounds
-read_offsets-requires-clause-windows_in_bounds c = windows_few c.requires.accepted_windows
+pub read_offsets-requires : goal.read_offsets-requires
+read_offsets-requires c = few_windows _ c.args.plan.now.accepted
 
 pub find_lasts-requires-clause-prepared : goal.find_lasts-requires-clause-prepared
-find_lasts-requires-clause-prepared c = prepared_read _ _ _ c.requires.accepted_windows c.read_offsets.ensures
+find_lasts-requires-clause-prepared c = prepared_read _ _ _ (record { accepted = c.args.plan.now.accepted; counted = refl }) c.read_offsets.ensures

@@ -1,10 +1,11 @@
 use Rattle.plan.specs.File.{window_count}
 use Rattle.overlap.specs.Overlap.{overlaps}
+use Rattle.minutes.specs.Rooted.{plan_of}
 use Rattle.path.proofs.Climbing.{Climbing}
 use Rattle.path.proofs.walk.climb_steps.Given as goal
 
-abbrev pub invariant-loop-parent : goal.invariant-loop-parent
-invariant-loop-parent l = Climbing (window_count l.file) (overlaps l.file) l.earlier l.later l.at l.steps
+abbrev pub invariant-loop-plan : goal.invariant-loop-plan
+invariant-loop-plan l = Climbing (window_count (plan_of l.tree)) (overlaps (plan_of l.tree)) l.earlier l.later l.at l.steps
 
-abbrev pub decreases-loop-parent : goal.decreases-loop-parent
-decreases-loop-parent l = l.at
+abbrev pub decreases-loop-plan : goal.decreases-loop-plan
+decreases-loop-plan l = l.at

@@ -1,4 +1,4 @@
--- `tree::tagging::write_tags` meets its contract. The loop's invariant is `Tagged`; the measure is what is left of the windows.
+-- `tree::tagging::write_tags` meets its contract. The loop's invariant is `Tagged`.
 use Rattle.tag_bytes.specs.TagFile.{tag_file}
 use Rattle.tag_bytes.proofs.Tagged.{tagged_start, tag_turn, tagged_end}
 use Rattle.tree.proofs.tagging.write_tags.Goals as goal
@@ -7,7 +7,8 @@ pub loop-position-init : goal.loop-position-init
 loop-position-init c = tagged_start _ _ _ _
 
 pub loop-position-preserved : goal.loop-position-preserved
-loop-position-preserved c = let h = c.loop-position-test.true in
+loop-position-preserved c =
+    let h = c.loop-position-test.true in
     tag_turn _ _ _ h (c.requires.numbered.fit _ h) _ _ _ _ c.requires.windows_in_bounds c.write.ensures.value c.write.ensures.out_after c.loop-position.invariant
 
 pub returns : goal.returns
