@@ -8,7 +8,7 @@ use lib.Dec.{ltb}
 use mir.Val.{bool_byte}
 use borrow.Author.Tests.{ltb-true, ltb-false}
 use Rattle.sequences.proofs.Tests.{lt_or_ge}
-use Rattle.minutes.specs.Passes.{FirstPast, fours, Quartered, Sorted, LastBefore}
+use Rattle.minutes.specs.Passes.{fours, Quartered, Sorted, LastBefore}
 
 -- Before `at` no bound lies past the offset.
 pub record NonePast (bounds : ℕ → ℕ) (offset from to at : ℕ) : Type 0 where
