@@ -11,17 +11,16 @@ use lib.ListN.{length, get_or, set}
 use borrow.Author.Tests.{eq-eqb, ne_eqb, eqb-true}
 use Rattle.sequences.proofs.Tests.{equal_or_not}
 use Rattle.refusals.specs.declared.Refusal.{Refusal}
-use Rattle.refusals.specs.Question.{refusal_by, question, first_no, position_questions}
-use Rattle.refusals.proofs.Questions.{first_append, asked_first, first_all, all_member}
+use Rattle.std.specs.Prelude.{Result, Ok, Err}
+use Rattle.refusals.specs.Question.{refusal_by, first_no, position_questions}
+use Rattle.refusals.proofs.Questions.{first_append, asked_first, passed_all, all_member}
 use Rattle.interval_graph.specs.Numbers.{outcome}
 use Rattle.tag_bytes.specs.Fields.{tag_length, tag_of, numbers}
 use Rattle.tag_bytes.specs.TagFile.{tag_count, tag_part, tag_file_question}
 use Rattle.tag.specs.declared.pairs.PairAnswer.TheVariants as pair
-use Rattle.tag.specs.Pairing.{pair_questions, answer_of, pair_answer_of, pair_at_answer_of}
+use Rattle.tag.specs.Pairing.{pair_questions, answer_of, pair_answer_by, pair_at_answer_of}
 use Rattle.tag.proofs.Pairing.{pair_at_asked}
-use Rattle.page.specs.declared.Query.{Query}
-use Rattle.page.specs.declared.PageAnswer.{PageAnswer}
-use Rattle.page.specs.declared.PageAnswer.TheVariants.{Filled, Refused}
+use Rattle.page.specs.declared.query.Query.{Query}
 use Rattle.page.specs.Page.{query_answer_of, query_questions, with_answer, filled, page_answer_of, if_filled, to_fill}
 use Rattle.page.specs.Passes.{as_one_pair}
 
@@ -56,33 +55,28 @@ map_alike f g [] alike = refl
 map_alike f g (x ∷ l) alike = rw (alike x, map_alike f g l alike)
 
 -- No more records are filled than there are.
-pub to_fill_few : (answer : PageAnswer) (records : ℕ) → to_fill answer records ≤ records
-unfolding to_fill if_filled
-to_fill_few Filled records = omega arith
-to_fill_few (Refused r) records = omega arith
+pub to_fill_few : (answer : Result (Unit {0}) Refusal) (records : ℕ) → to_fill answer records ≤ records
+to_fill_few (Ok tt) records = omega arith
+to_fill_few (Err r) records = omega arith
 
 -- A record's answer is the first "no" of what is asked of it, or what the rule says.
 pub query_asked : (tags : List ℕ) (first second : ℕ) → query_answer_of tags first second
     ≡ first_no (query_questions tags first second) pair.Refused
     (answer_of (outcome (numbers (tag_of (tag_part tags first))) (numbers (tag_of (tag_part tags second)))))
-unfolding query_answer_of query_questions pair_answer_of
+unfolding query_answer_of pair_answer_by
 query_asked tags first second = sym (first_append (position_questions first second (tag_count tags))
     (pair_questions (tag_part tags first) (tag_part tags second)) pair.Refused _)
 
 module _ (tags : List ℕ) where
-  pub page_9 : (length tags % tag_length ≡ 0 → ⊥) → Refused (refusal_by 9) ≡ page_answer_of tags
-  unfolding page_answer_of tag_file_question first_no question
+  pub page_9 : (length tags % tag_length ≡ 0 → ⊥) → Err (refusal_by 9) ≡ page_answer_of tags
   page_9 other = rw (ne_eqb (length tags % tag_length) 0 other)
 
-  pub page_whole : length tags % tag_length ≡ 0 → Filled ≡ page_answer_of tags
-  unfolding page_answer_of tag_file_question first_no question
+  pub page_whole : length tags % tag_length ≡ 0 → Ok tt ≡ page_answer_of tags
   page_whole whole = rw (eq-eqb (length tags % tag_length) 0 whole)
 
   -- A page is filled only where the file passes 9.
-  pub whole_page : page_answer_of tags ≡ Filled → length tags % tag_length ≡ 0
-  unfolding page_answer_of tag_file_question question
-  whole_page e = eqb-true _ _ (all_member (tag_file_question tags ∷ [])
-      (first_all (tag_file_question tags ∷ []) Refused Filled (λ r f. let z : ◌≡◌ {A = ℕ} 0 1 = cc in omega arith) e) _ (Memᴰ.head refl))
+  pub whole_page : page_answer_of tags ≡ Ok tt → length tags % tag_length ≡ 0
+  whole_page e = eqb-true _ _ (all_member (tag_file_question tags ∷ []) (passed_all (tag_file_question tags ∷ []) (sym e)) _ (Memᴰ.head refl))
 
   -- Where the file passes 9, the answer of a single pair is a record's.
   pub pair_filled : length tags % tag_length ≡ 0 → (first second : ℕ) → pair_at_answer_of tags first second ≡ query_answer_of tags first second
@@ -96,15 +90,15 @@ module _ (tags : List ℕ) where
 
   -- As many records replaced as are to be filled: the page afterwards.
   module _ {A : Type 0} (f g : A → A) (alike : length tags % tag_length ≡ 0 → (x : A) → f x ≡ g x) (l : List A) where
-    FilledSo : PageAnswer → Type 0
+    FilledSo : Result (Unit {0}) Refusal → Type 0
     FilledSo answer = up_to f (to_fill answer (length l)) l ≡ if_filled answer (map g l) l
 
-    all_filled : length tags % tag_length ≡ 0 → FilledSo Filled
-    unfolding FilledSo to_fill if_filled
+    all_filled : length tags % tag_length ≡ 0 → FilledSo (Ok tt)
+    unfolding FilledSo
     all_filled whole = up_to_all f l ∙ map_alike f g l (alike whole)
 
-    none_filled : (r : Refusal) → FilledSo (Refused r)
-    unfolding FilledSo to_fill if_filled up_to
+    none_filled : (r : Refusal) → FilledSo (Err r)
+    unfolding FilledSo up_to
     none_filled r = refl
 
     pub page_filled : up_to f (to_fill (page_answer_of tags) (length l)) l ≡ if_filled (page_answer_of tags) (map g l) l

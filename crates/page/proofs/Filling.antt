@@ -1,7 +1,5 @@
 -- A loop that replaces the records of a lent slice one by one, each by what a callee makes of it, said once for any type of record:
---     let count = to_fill(tags, queries.len());
---     let mut i = 0;
---     while i < count { queries[i] = answered(tags, queries[i]); i += 1; }
+--     for record in records { *record = record.answered(tags); }
 -- Before each turn the first i records are replaced and the others as they were (`up_to`). All that is known of the callees is what they give
 -- back: `walk` takes a turn, and `meets` says what the loop leaves behind.
 -- Vocabulary: walk, meets.

@@ -4,19 +4,18 @@
 use Prim.Native.Nat.{ℕ}
 use mathlib.Core.{Path.◌≡◌, Path.refl, List.List, List.[], List.◌∷◌, List.◌++◌}
 use Rattle.refusals.specs.Question.{refusal_by, refusal_from}
-use Rattle.tag_bytes.specs.TagFile.{tag_count}
 use Rattle.tag_bytes.proofs.Plan12.{tags}
 use Rattle.tag.specs.declared.pairs.PairAnswer.{PairAnswer}
 use Rattle.tag.specs.declared.pairs.PairAnswer.TheVariants as pair
 use Rattle.tag.specs.declared.pairs.PairAnswer.TheVariants.{Handovers, NoChain}
 use Rattle.tag.proofs.Plan12 as pairs
 use Rattle.tag.proofs.Plan12.{tag}
-use Rattle.page.specs.declared.Query.{Query}
-use Rattle.page.specs.declared.PageAnswer.TheVariants.{Refused}
-use Rattle.page.specs.Page.{query_answer_of, with_answer, filled, page_answer_of, if_filled, to_fill, after_page}
+use Rattle.std.specs.Prelude.{Err}
+use Rattle.page.specs.declared.query.Query.{Query}
+use Rattle.page.specs.Page.{query_answer_of, with_answer, filled, page_answer_of, to_fill, after_page}
 
 unfoldable pub meaning : Unit {0}
-unfolding pairs.meaning tag_count query_answer_of with_answer filled page_answer_of if_filled to_fill after_page
+unfolding pairs.meaning query_answer_of with_answer filled after_page
 meaning = tt
 
 -- A record with something in the place for its answer.
@@ -42,7 +41,7 @@ unfolding meaning tags tag query page
 bad_tags = refl
 
 -- One byte is no tag file: the whole page is refused, and what stood in it stays.
-pub refused_page : page_answer_of (0 ∷ []) ≡ Refused (refusal_by 9)
+pub refused_page : page_answer_of (0 ∷ []) ≡ Err (refusal_by 9)
 unfolding meaning
 refused_page = refl
 

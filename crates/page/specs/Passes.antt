@@ -2,7 +2,7 @@
 -- Vocabulary: as_one_pair.
 use Rattle.std.specs.Prelude.{ℕ, List}
 use Rattle.tag.specs.Pairing.{pair_at_answer_of}
-use Rattle.page.specs.declared.Query.{Query}
+use Rattle.page.specs.declared.query.Query.{Query}
 use Rattle.page.specs.Page.{with_answer}
 
 -- The record with the answer of a single pair, which asks 9 of the tag file once more.

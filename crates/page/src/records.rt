@@ -1,0 +1,36 @@
+// A page of any type of record.
+ghost use Rattle.std.specs.Prelude.{◌≡◌, ◌%◌, List, ℕ, length, map};
+ghost use Rattle.tag_bytes.specs.Fields.{tag_length};
+ghost use Rattle.page.specs.Page.{page_answer_of, if_filled};
+
+use refusals::{Question, Refusal};
+use tag::{Label, Tag};
+
+/// Two positions, and the place for their answer. What stands there before is not read.
+pub trait Record: Copy {
+    // The record with the answer for its positions, from a file of whole tags.
+    ghost filled: { List ℕ → Self → Self };
+
+    /// The record with the answer for its positions.
+    fn answered(self, tags: &[u8]) -> Self
+        ensures { length tags.now % tag_length ≡ 0 → result ≡ filled tags.now self };
+}
+
+/// Question 9 of the tag file, which is asked once for a page.
+pub fn ask(tags: &[u8]) -> Result<(), Refusal>
+    ensures { result ≡ page_answer_of tags.now }
+{
+    refusals::ask(Question::HasItsBytes, tags.len() % Tag::LENGTH == 0)
+}
+
+/// Fills every record of a page. A refused page is left as it was.
+pub fn fill<R: Record>(tags: &[u8], records: &mut [R]) -> Result<(), Refusal>
+    ensures value { result ≡ page_answer_of tags.now }
+    ensures records_after { records.new ≡ if_filled (page_answer_of tags.now) (map (R.filled tags.now) records.old) records.old }
+{
+    ask(tags)?;
+    for record in records {
+        *record = record.answered(tags);
+    }
+    Ok(())
+}
