@@ -134,7 +134,7 @@ pub fn pack_page(answer: PageAnswer) -> u64
     }
 }
 
-// The margin itself, a signed number, is handed on beside the answer.
+/// The margin itself, a signed number, is handed on beside the answer.
 pub fn pack_margin(answer: MarginAnswer) -> u64
     ensures { result ≡ packed_margin answer }
 {

@@ -7,7 +7,7 @@ ghost use Rattle.poddreshi_reader.specs.Pages.{after_packed_page, as_one_packed_
 use crate::tags::poddreshi_pair_at;
 use packing::pack_page;
 
-// A record of a page as C has it: two positions, and the place for their answer as one number. What stands there before is not read.
+/// A record of a page as C has it: two positions, and the place for their answer as one number. What stands there before is not read.
 #[repr(C)]
 #[derive(Clone, Copy)]
 pub struct PackedQuery {
@@ -34,7 +34,7 @@ fn ask(tags: &[u8]) -> u64
     pack_page(page::ask(tags))
 }
 
-// Fills every record of a page. It is the loop of `page::page`, over records that C can hold.
+/// Fills every record of a page. It is the loop of `page::page`, over records that C can hold.
 pub fn poddreshi_page(tags: &[u8], queries: &mut [PackedQuery]) -> u64
     ensures value { result ≡ packed_page (page_answer_of tags.now) }
     ensures queries_after { queries.new ≡ after_packed_page (page_answer_of tags.now) tags.now queries.old }

@@ -11,15 +11,15 @@ use packing::{pack_lookup, pack_pair, pack_write};
 use refusals::Asked;
 use tag::{LookupAnswer, PairAnswer, Tag};
 
-// The answer from the bytes of two tags.
+/// The answer from the bytes of two tags.
 pub fn poddreshi_pair(first: &[u8], second: &[u8]) -> u64
     ensures { result ≡ packed_pair (pair_answer_of first.now second.now) }
 {
     pack_pair(tag::pair(first, second))
 }
 
-// The answer from the tags at two positions of a tag file. It does as `tag::pair_at`, but by the call above: the rule is then
-// compiled once, with its packing, and a pair costs less.
+/// The answer from the tags at two positions of a tag file. It does as `tag::pair_at`, but by the call above: the rule is then
+/// compiled once, with its packing, and a pair costs less.
 pub fn poddreshi_pair_at(tags: &[u8], first: usize, second: usize) -> u64
     ensures { result ≡ packed_pair (pair_at_answer_of tags.now first second) }
 {
@@ -30,8 +30,8 @@ pub fn poddreshi_pair_at(tags: &[u8], first: usize, second: usize) -> u64
     poddreshi_pair(tag::lookup(tags, first), tag::lookup(tags, second))
 }
 
-// Where in a tag file the tag at a position begins. `tag::lookup` hands back the part that begins there; a part does not
-// cross into C.
+/// Where in a tag file the tag at a position begins. `tag::lookup` hands back the part that begins there; a part does not
+/// cross into C.
 pub fn poddreshi_lookup(tags: &[u8], at: usize, offset: &mut usize) -> u64
     ensures value { result ≡ packed_lookup (lookup_answer_of tags.now at) }
     ensures offset_after { offset.new ≡ offset_after (lookup_answer_of tags.now at) at offset.old }
@@ -43,7 +43,7 @@ pub fn poddreshi_lookup(tags: &[u8], at: usize, offset: &mut usize) -> u64
     pack_lookup(answer)
 }
 
-// Fills the first ten bytes of `out` with a tag.
+/// Fills the first ten bytes of `out` with a tag.
 pub fn poddreshi_write(
     plan: u16,
     component: u16,
@@ -58,21 +58,21 @@ pub fn poddreshi_write(
     pack_write(tag::write(plan, component, depth, rank, last, out))
 }
 
-// The answer from the bytes of two short tags.
+/// The answer from the bytes of two short tags.
 pub fn poddreshi_short_pair(first: &[u8], second: &[u8]) -> u64
     ensures { result ≡ packed_pair (short_pair_answer_of first.now second.now) }
 {
     pack_pair(short_tag::short_pair(first, second))
 }
 
-// The answer from the short tags at two positions of a file of them.
+/// The answer from the short tags at two positions of a file of them.
 pub fn poddreshi_short_pair_at(tags: &[u8], first: usize, second: usize) -> u64
     ensures { result ≡ packed_pair (short_pair_at_answer_of tags.now first second) }
 {
     pack_pair(short_tag::short_pair_at(tags, first, second))
 }
 
-// Fills the first eight bytes of `out` with a short tag.
+/// Fills the first eight bytes of `out` with a short tag.
 pub fn poddreshi_short_write(
     plan: u16,
     component: u16,
