@@ -99,7 +99,7 @@ test_holds c t =
 
 -- The eleven cases pass.
 cases_pass : tests cases ≡ true
-unfolding definitions meaning all_yes component_count climb walk chain_of chain_between plan12 touching overlapping cases tests test found same_outcome same_list
+unfolding definitions meaning component_count climb walk chain_of chain_between plan12 touching overlapping cases tests test found same_outcome same_list
 cases_pass = refl
 
 tests_hold : (l : List Case) → tests l ≡ true → (c : Case) → Memᴰ c l → CaseHolds c.0 c.1 c.2 c.3 c.4 c.5
@@ -115,7 +115,7 @@ cases_hold = tests_hold cases cases_pass
 
 -- Q-2's cases pass, and so they hold.
 minimum_cases_pass : tests minimum_cases ≡ true
-unfolding definitions meaning all_yes component_count climb walk chain_of chain_between three equals minimum_cases tests test found
+unfolding definitions meaning component_count climb walk chain_of chain_between three equals minimum_cases tests test found
     same_outcome same_list
 minimum_cases_pass = refl
 

@@ -12,7 +12,7 @@ use Rattle.tag_bytes.specs.Fields.{tag_bytes, short_bytes}
 use Rattle.numbering.specs.Tables.{numbers_at}
 use Rattle.numbering.proofs.Filled.{Rooms}
 use Rattle.tree.specs.Build.{after_tags}
-use Rattle.tree.proofs.Built.{build_built}
+use Rattle.tree.proofs.Answered.{build_built}
 use Rattle.changing.specs.Change.{changed_file, adding, withdrawing}
 use Rattle.changing.specs.Questions.{after_change}
 use Rattle.changing.proofs.Changed.{changed_number, changed_minimum, changed_windows_lem}

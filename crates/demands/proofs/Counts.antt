@@ -85,7 +85,7 @@ module _ (file : List ℕ) (ok : AcceptedPlan file) (u v : ℕ) (hu : u < window
   pub pair_rule : pair_answer_of (tag_at file u) (tag_at file v)
       ≡ answer_of (outcome (numbers_of (window_count file) (overlaps file) (plan_number file) u)
       (numbers_of (window_count file) (overlaps file) (plan_number file) v))
-  unfolding tag_at numbers_at numbers_of compared_by compare_questions question from first_no
+  unfolding tag_at numbers_at numbers_of compared_by compare_questions
   pair_rule =
       pair_tag_file (numbers_at file) (window_count file) u v hu hv (window_within file ok u hu) (window_within file ok v hv)
       ∙ rw (eq-eqb (plan_number file) (plan_number file) refl, agree (numbers_at file) (λ w. refl) (λ w. refl))
@@ -93,18 +93,16 @@ module _ (file : List ℕ) (ok : AcceptedPlan file) (u v : ℕ) (hu : u < window
   -- The chain call asks only for room.
   chain_asked : (room : ℕ) → chain_answer_of file u v room
       ≡ first_no (room_question (length (chain_between file u v)) room ∷ []) Err (chain_found (chain_between file u v))
-  unfolding chain_answer_of chain_questions position_questions position_question question from first_no
+  unfolding chain_answer_of chain_questions
   chain_asked room =
       sym (plan_accepted file _ Err (chain_found (chain_between file u v)) (validate_answer_of file) refl _ _ (accepted_validated file ok))
       ∙ rw (lt-ltb u (window_count file) hu, lt-ltb v (window_count file) hv)
 
   -- Where the table holds the chain, the answer is what is found of it; where it does not, the answer is a refusal.
   chain_roomy : (room : ℕ) → length (chain_between file u v) ≤ room → chain_answer_of file u v room ≡ chain_found (chain_between file u v)
-  unfolding room_question question first_no
   chain_roomy room fits = chain_asked room ∙ rw (le-leb (length (chain_between file u v)) room fits)
 
   chain_short : (room : ℕ) → leb (length (chain_between file u v)) room ≡ false → chain_answer_of file u v room ≡ Err (refusal_by 8)
-  unfolding room_question question first_no
   chain_short room short = chain_asked room ∙ rw short
 
   empty_apart : (chain_between file u v ≡ []) ↔ (Joined (window_count file) (overlaps file) u v → ⊥)

@@ -41,7 +41,7 @@ module _ (plan minimum offset length : ℕ) (passes : minimum_passes minimum ≡
   alone_fits ok = rw read at ((accepted_sound file ok).early 0 (omega (arith, count-file_of plan minimum windows)))
 
   alone_passes : offset + length ≤ 4294967295 → AcceptedPlan file
-  unfolding end_of windows_pass window_questions question all_yes
+  unfolding end_of windows_pass window_questions
   alone_passes early =
       accepted-file_of plan minimum windows (span offset length)
       ∙ rw (passes, le-leb minimum length long, le-leb (offset + length) greatest_end early, le-leb 0 offset (omega arith))
@@ -82,7 +82,7 @@ module _ (file : List ℕ) (ok : AcceptedPlan file) (u v : ℕ) (hu : u < window
   within_most = margin_most (window_at file u) (window_at file v) greatest_end (ends_fit file ok u hu)
 
 pub margins_within : MarginsWithin
-unfolding plan_meaning margin_of margin_between margin_questions margin_answer_of position_questions position_question from
+unfolding plan_meaning margin_of margin_between margin_questions margin_answer_of
 margins_within = record { least = within_least; most = within_most; least_reached = refl; most_reached = refl }
 
 pub lasts_by_ends : LastsByEnds
@@ -102,14 +102,14 @@ module _ (file : List ℕ) (plan offset length : ℕ) (ok : AcceptedPlan file) (
   added_fits accepted = (change_added file plan (span offset length) accepted).2
 
   added_passes : offset + length ≤ 4294967295 → AcceptedChange file (adding plan (span offset length))
-  unfolding end_of has_place edit_questions question all_yes
+  unfolding end_of has_place edit_questions
   added_passes early =
       accept_change file (adding plan (span offset length)) ok (lt-ltb (window_count file) greatest_count few) other
       (rw (le-leb (minimum_handover file) length long, le-leb (offset + length) greatest_end early))
 
   added_late : 4294967295 < offset + length → (changed tags : ℕ) →
       change_answer_of file (adding plan (span offset length)) changed tags ≡ Err (refusal_by 5)
-  unfolding end_of change_answer_of change_questions record_questions has_place edit_questions question first_no
+  unfolding end_of change_answer_of change_questions record_questions has_place edit_questions
   added_late late changed tags =
       plan_passed file _ Err _ ok
       ∙ rw (
@@ -140,7 +140,7 @@ two_overlap minimum u v ok =
     )
 
 pub late_cases : LateCases
-unfolding plan_meaning all_yes
+unfolding plan_meaning
 late_cases =
     record {
       old_edge = refl;

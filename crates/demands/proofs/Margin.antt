@@ -15,7 +15,7 @@ use Rattle.demands.specs.Margin.{Margins, MarginTested}
 
 margin_given : (file : List ℕ) → AcceptedPlan file → (u v : ℕ) → u < window_count file → v < window_count file →
     margin_answer_of file u v ≡ Ok (margin_between file u v)
-unfolding margin_answer_of margin_questions position_questions position_question question from first_no
+unfolding margin_answer_of margin_questions
 margin_given file ok u v hu hv =
     sym (plan_accepted file _ Err _ (validate_answer_of file) refl _ _ (accepted_validated file ok))
     ∙ rw (lt-ltb u (window_count file) hu, lt-ltb v (window_count file) hv)

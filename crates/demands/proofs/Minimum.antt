@@ -67,7 +67,7 @@ abbrev shorter : List Window
 shorter = record { offset = 0; length = 10 } ∷ record { offset = 1; length = 1 } ∷ record { offset = 2; length = 10 } ∷ []
 
 pub needs_length : NeedsLength
-unfolding definitions meaning all_yes
+unfolding definitions meaning
 needs_length =
     let far : overlaps (file_of 0 5 shorter) 0 2 ≡ true = refl in let near : overlaps (file_of 0 5 shorter) 0 1 ≡ false = refl in (
       shorter,

@@ -82,7 +82,7 @@ module _ (file : List ℕ) (ok : AcceptedPlan file) where
 
   -- The answer of a record is that of the two windows' tags.
   of_tags : (u v : ℕ) → u < window_count file → v < window_count file → query_answer_of tags u v ≡ pair_answer_of (tag_at file u) (tag_at file v)
-  unfolding tags tag_at position_questions position_question question from first_no
+  unfolding tags tag_at
   of_tags u v hu hv =
       sym (pair_filled tags whole u v) ∙ (pair_at_tag_file (numbers_at file) (window_count file) u v
       ∙ rw (lt-ltb u (window_count file) hu, lt-ltb v (window_count file) hv))

@@ -20,7 +20,7 @@ use Rattle.demands.proofs.Counts.{demand_3}
 reach_answered : (file : List ℕ) → AcceptedPlan file → (at : ℕ) → at < window_count file →
     reach_answer_of file at ≡ reach_as (reach (window_count file) (overlaps file) at)
     (smaller (window_count file) (overlaps file) at) (larger (window_count file) (overlaps file) at)
-unfolding reach_answer_of reach_in reach_of reach_questions position_question question first_no
+unfolding reach_answer_of reach_in reach_of reach_questions
 reach_answered file ok at h =
     sym (plan_accepted file _ Err _ (validate_answer_of file) refl _ _ (accepted_validated file ok))
     ∙ rw (lt-ltb at (window_count file) h)

@@ -39,7 +39,6 @@ use Rattle.demands.specs.Refusals.{FirstNo, here, there, Refuses, Demand1}
 module _ {A : Type 0} (refused : Refusal → A) (accepted : A) (tells : (r s : Refusal) → refused r ≡ refused s → r ≡ s)
     (apart : (r : Refusal) → accepted ≡ refused r → ⊥) where
   sound : (qs : List Question) (r : Refusal) → first_no qs refused accepted ≡ refused r → FirstNo qs r
-  unfolding first_no
   sound [] r e = absurd (apart r e)
   sound (q ∷ qs) r e =
       ⊎_elim (λ t. there t (sound qs r (sym (first_yes qs refused accepted q t) ∙ e)))

@@ -35,7 +35,7 @@ validated file (Err refusal) = Err refusal
 
 module _ (file : List ℕ) (room : ℕ) (enough : tag_length * greatest_count ≤ room) where
   by_validation : (v : Result Accepted Refusal) → v ≡ validate_answer_of file → tags_answer_of file room ≡ validated file v
-  unfolding tags_answer_of tags_questions room_question question first_no
+  unfolding tags_answer_of tags_questions
   by_validation (accepted_as plan windows) e =
       let p = validated_windows file (accepted_as plan windows) e plan windows refl in
       plan_first file _ Refused _
@@ -79,7 +79,7 @@ module _ (file : List ℕ) (room : ℕ) (enough : tag_length * greatest_count �
 -- Of the positions of two windows of an accepted plan the tags answer.
 pub paired_windows : (file : List ℕ) → AcceptedPlan file → (u v : ℕ) → u < window_count file → v < window_count file →
     pair_from_plan file u v ≡ pair_answer_of (tag_at file u) (tag_at file v)
-unfolding pair_from_plan position_questions position_question question from first_no
+unfolding pair_from_plan
 paired_windows file ok u v hu hv =
     sym (plan_accepted file _ PairAnswer.Refused _ (validate_answer_of file) refl _ _ (accepted_validated file ok))
     ∙ rw (lt-ltb u (window_count file) hu, lt-ltb v (window_count file) hv)

@@ -37,7 +37,7 @@ use Rattle.demands.proofs.Counts.{agree, pair_rule, demand_3}
 module _ (file : List ℕ) (ok : AcceptedPlan file) (u v : ℕ) (hu : u < window_count file) (hv : v < window_count file) where
   -- So the answer from two short tags is what their rule says.
   short_rule : short_pair_answer_of (short_tag_at file u) (short_tag_at file v) ≡ answer_of (short_outcome (short (numbers_at file u)) (short (numbers_at file v)))
-  unfolding short_tag_at compared_by compare_questions question from first_no numbers_at numbers_of short
+  unfolding short_tag_at compared_by compare_questions numbers_at numbers_of short
   short_rule =
       rw (short_tag_file_part (numbers_at file) (window_count file) u hu, short_tag_file_part (numbers_at file) (window_count file) v hv)
       (pair_short_bytes (numbers_at file u) (numbers_at file v) (window_within file ok u hu) (window_within file ok v hv)
@@ -59,7 +59,7 @@ short_pairs file ok rise u v hu hv =
 
 -- Windows 1 and 3 of plan 12 are 2 apart, and their short tags say 1.
 pub needs_even : NeedsEven
-unfolding definitions meaning all_yes plan12 short short_between numbers_at answer_of
+unfolding definitions meaning plan12 short short_between numbers_at answer_of
 needs_even =
     let ok : AcceptedPlan plan12 = refl in let hu : 1 < window_count plan12 = omega arith in let hv : 3 < window_count plan12 = omega arith in
     let one : short_pair_answer_of (short_tag_at plan12 1) (short_tag_at plan12 3) ≡ PairAnswer.Handovers 1 = short_rule plan12 ok 1 3 hu hv in
@@ -78,7 +78,7 @@ needs_even =
 -- An even plan with room is answered so.
 all_written : (file : List ℕ) → AcceptedPlan file → EndsRise file → (t : ℕ) → short_length * window_count file ≤ t →
     short_tags_answer_of file t ≡ built_as (plan_number file) (window_count file) (component_count file)
-unfolding short_tags_answer_of short_tags_questions room_question question first_no
+unfolding short_tags_answer_of short_tags_questions
 all_written file ok rise t fits =
     plan_passed file _ Err _ ok ∙ (first_append (even_questions file) _ Err _
     ∙ (all_first (even_questions file) Err _ (ends_even file rise) ∙ rw (le-leb (short_length * window_count file) t fits)))

@@ -22,7 +22,7 @@ use Rattle.minutes.specs.Tables.{parent_of}
 use Rattle.numbering.specs.Tables.{component_of, depth_of, rank_of, last_rank_of, component_count, numbers_at}
 use Rattle.numbering.specs.Numbering.{after_build}
 use Rattle.tree.specs.Build.{after_tags}
-use Rattle.tree.proofs.Built.{build_built}
+use Rattle.tree.proofs.Answered.{build_built}
 use Rattle.demands.specs.EndToEnd.{tag_at}
 use Rattle.demands.specs.Tree.{Built, Demand2}
 

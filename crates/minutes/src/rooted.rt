@@ -1,8 +1,9 @@
 // An accepted plan with the parents of its windows.
-ghost use Rattle.std.specs.Prelude.{◌≡◌};
+ghost use Rattle.std.specs.Prelude.{◌≡◌, ◌≤◌};
 ghost use Rattle.sequences.specs.Table.{Holds};
 ghost use Rattle.plan.specs.File.{window_count};
 ghost use Rattle.plan.specs.Plan.{bytes_of};
+ghost use Rattle.plan.specs.Validation.{greatest_count};
 ghost use Rattle.minutes.specs.Tables.{parent_of};
 
 use crate::parents::find_parents;
@@ -36,6 +37,14 @@ impl<'a> Rooted<'a> {
         self.plan
     }
 
+    /// How many windows there are.
+    pub fn len(&self) -> usize
+        ensures counted { result ≡ window_count (plan_of self.now) }
+        ensures few { result ≤ greatest_count }
+    {
+        self.plan.len()
+    }
+
     /// The parents of all windows as a table, for walks that need not ask whether there is one: a root's entry is its own position.
     pub fn parents(&self) -> &[u16]
         ensures { Holds result.now (parent_of (plan_of self.now)) (window_count (plan_of self.now)) }
@@ -48,7 +57,7 @@ impl<'a> Rooted<'a> {
     pub fn parent(&self, at: usize) -> Option<usize>
         ensures { result ≡ above (plan_of self.now) at }
     {
-        if at < self.plan.len() && usize::from(self.parents[at]) < at {
+        if at < self.len() && usize::from(self.parents[at]) < at {
             Some(usize::from(self.parents[at]))
         } else {
             None

@@ -3,16 +3,16 @@
 -- Vocabulary: stands, walking, between.
 -- Assumes nothing.
 use Prim.Native.Nat.{ℕ, suc, ◌+◌, ◌≤◌, ◌<◌, min, max}
-use mathlib.Core.{Path.◌≡◌, Path.refl, Path.sym, Path.ap, Path.◌∙◌, Logic.⊎_elim, List.List, List.[], List.◌∷◌, List.◌++◌, List.append_assoc}
+use mathlib.Core.{Path.◌≡◌, Path.refl, Path.sym, Path.ap, Path.◌∙◌, Logic.⊎_elim, List.List, List.[], List.◌∷◌, List.◌++◌}
 use Rattle.std.specs.Prelude.{Some, None, Ok, Err}
 use Rattle.std.proofs.lemmas.Grind.{common_steps}
 use native.Mathlib.Omega.{arith}
 use native.Mathlib.Numerals.{add-one}
-use lib.ListN.{length, get_or, set, take, drop, length-append, length-take, drop_of_length-le}
+use lib.ListN.{length, get_or, set, take, drop, length-append, length-take}
 use borrow.Author.Tests.{eq-eqb, ne_eqb, lt-leb}
 use Rattle.sequences.specs.Table.{table, overwritten, Holds}
 use Rattle.sequences.proofs.Tests.{lt_or_ge, equal_or_not}
-use Rattle.sequences.proofs.Table.{length_table, length_overwritten, overwritten_table, table_turn}
+use Rattle.sequences.proofs.Table.{length_table, length_overwritten_table, overwritten_none, overwritten_next, overwritten_front}
 use Rattle.sequences.proofs.Appending.{written_more}
 use Rattle.interval_graph.specs.Tree.{ancestor}
 use Rattle.interval_graph.specs.Walk.{climb, walk}
@@ -107,29 +107,16 @@ module _ (file : List ℕ) (v : ℕ) where
   unfolding parent_of
   stands_next parents held step at e h = rw (held.at at h, add-one step, ancestor_suc (tree (overlaps file)) step v, e) refl
 
-module _ (f : ℕ → ℕ) (before : List ℕ) where
-  pub written_first : overwritten before (table f 0) ≡ before
-  unfolding table overwritten
-  written_first = refl
+-- The earlier window behind them, where what was handed over of the table is full.
+pub walked_last : (f : ℕ → ℕ) (before : List ℕ) (index steps u : ℕ) → steps < length before → index ≡ length (take steps before) →
+    set (overwritten (take steps before) (table f index) ++ drop steps before) steps u ≡ overwritten before (table f steps ++ (u ∷ []))
+walked_last f before index steps u h full =
+    let all : index ≡ steps = omega (arith, length-take {A = ℕ}) in
+    rw (all, overwritten_front f before steps)
+    (written_more before (overwritten before (table f steps)) (table f steps) steps u (sym (length_table f steps)) h
+    (record { written = refl; long = length_overwritten_table f before steps (omega arith) })).written
 
-  -- One entry more,
-  pub written_next : (step x : ℕ) → step < length before → x ≡ f step →
-      set (overwritten before (table f step)) step x ≡ overwritten before (table f (step + 1))
-  written_next step x h e = rw (e, add-one step, overwritten_table, overwritten_table) (table_turn f before step h)
-
-  -- and one that stands behind those of a front that is full.
-  pub written_last : (index steps u : ℕ) → steps < length before → index ≡ length (take steps before) →
-      set (overwritten (take steps before) (table f index) ++ drop steps before) steps u ≡ overwritten before (table f steps ++ (u ∷ []))
-  written_last index steps u h full =
-      let all : index ≡ steps = omega (arith, length-take {A = ℕ}) in
-      let none : drop steps (take steps before) ≡ [] = drop_of_length-le (take steps before) (omega arith) in
-      let front : overwritten (take steps before) (table f steps) ++ drop steps before ≡ overwritten before (table f steps) =
-      rw (overwritten_table f steps (take steps before), overwritten_table f steps before, none, append_assoc) refl in
-      rw (all, front)
-      (written_more before (overwritten before (table f steps)) (table f steps) steps u (sym (length_table f steps)) h
-      (record { written = refl; long = length_overwritten before (table f steps) (omega (arith, length_table f steps)) })).written
-
-pub ruleset walking = (stands_low, stands_first, stands_next, written_first, written_next, written_last)
+pub ruleset walking = (stands_low, stands_first, stands_next, overwritten_none, overwritten_next, walked_last)
 
 -- A table that is too short for a chain is refused, and stays as it was.
 pub rest_short : (chain before : List ℕ) → length before < length chain → (Err (refusal_by 8) ≡ chain_rest chain (length before))

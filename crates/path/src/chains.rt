@@ -43,7 +43,7 @@ pub fn chain_in(
     ensures value { result ≡ chain_in_of (plan_of tree.now) first second (length out.old) }
     ensures out_after { out.new ≡ after_chain result (chain_between (plan_of tree.now) first second) out.old }
 {
-    refusals::ask_positions(first, second, tree.plan().len())?;
+    refusals::ask_positions(first, second, tree.len())?;
     write_between(tree, first.min(second), first.max(second), out)
 }
 

@@ -1,5 +1,6 @@
 // The walk up from the later window, from parent to parent, until a window that the earlier one overlaps, or one that does
-// not stand behind it.
+// not stand behind it. (The two are handed on as positions with their bounds: a type for the pair would be made in one place and taken
+// apart in each function, and save no line.)
 ghost use Rattle.std.specs.Prelude.{◌≡◌, ◌<◌, length};
 ghost use Rattle.sequences.specs.Table.{overwritten};
 ghost use Rattle.plan.specs.File.{window_count};
@@ -20,7 +21,8 @@ fn climb_steps(tree: &Rooted, earlier: usize, later: usize) -> Option<usize>
     let end = plan.window(earlier).unwrap().end();
     let mut at = later;
     let mut steps = 0;
-    // A `while`: how many steps there are is what is looked for. A window that shares less than the minimum with the earlier one stands behind its last, and no other does.
+    // A window that shares less than the minimum with the earlier one stands behind its last, and no other does. (A `while`: no index is
+    // counted, and the test stands in one place.)
     while !overlap::reaches(minimum, end, plan.window(at).unwrap().offset) {
         at = tree.parent(at)?;
         steps += 1;

@@ -1,13 +1,13 @@
 -- Reach from what the passes find: first the component's root and its last window, then the two cases, each the one pair that the
 -- definition finds; and the answer after each test of the call.
--- Vocabulary: Whole, Rooted.
+-- Vocabulary: Whole.
 -- Assumes nothing.
 use Prim.Native.Nat.{ℕ, zero, suc, ◌+◌, ◌-◌, ◌≤◌, ◌<◌}
 use mathlib.Core.{Bool.Bool, Path.◌≡◌, Path.refl, Path.sym, Path.ap, Path.◌∙◌, Logic.⊎_elim, List.List}
 use native.Mathlib.Omega.{arith}
 use native.Mathlib.Nat.{le_antisymm}
-use lib.ListN.{length, get_or}
-use borrow.Author.Tests.{lt-ltb, le-ltb}
+use lib.ListN.{get_or}
+use borrow.Author.Tests.{le-ltb}
 use Rattle.sequences.specs.Table.{Holds}
 use Rattle.sequences.proofs.Tests.{lt_or_ge}
 use Rattle.interval_graph.specs.Tree as Tree
@@ -31,20 +31,22 @@ use Rattle.interval_graph.proofs.Monotone.{depth_monotone}
 use Rattle.interval_graph.proofs.Reach.{last_in_component_window, last_in_component-component, last_in_component-greatest}
 use Rattle.interval_graph.proofs.Farthest.{Far, far_unique, reach_far}
 use Rattle.interval_graph.proofs.Greatest.{end_window, end_root, between_ends, far_beyond, far_within}
-use Rattle.refusals.specs.declared.Refusal.{Refusal}
-use Rattle.refusals.specs.Question.{refusal_by, question, position_question}
-use Rattle.plan.specs.declared.questions.Validation.{Validation}
-use Rattle.plan.specs.{File.window_count, Validation.greatest_count, Validation.validate_answer_of}
+use Rattle.std.specs.Prelude.{Some, None, Result, Err}
+use Rattle.std.proofs.lemmas.Grind.{common_steps}
+use Rattle.refusals.specs.declared.refusal.Refusal.{Refusal}
+use Rattle.refusals.specs.Question.{refusal_by, position_question}
+use Rattle.plan.specs.declared.questions.Accepted.{Accepted}
+use Rattle.plan.specs.{File.window_count, Validation.AcceptedPlan, Validation.validate_answer_of}
 use Rattle.overlap.specs.Overlap.{overlaps}
 use Rattle.plan.specs.AcceptedWindows.{AcceptedWindows}
-use Rattle.plan.proofs.Calls.{plan_refused, one_more_no, one_more_yes}
-use Rattle.plan.proofs.{Counted.windows_few, Acceptance.accepted_validated}
-use Rattle.overlap.proofs.Counted.{windows_order}
+use Rattle.plan.proofs.Calls.{plan_refused, one_more_no}
+use Rattle.plan.proofs.Acceptance.{accepted_validated}
+use Rattle.overlap.proofs.InOrder.{interval_order}
 use Rattle.minutes.specs.Tables.{last_of, parent_of}
-use Rattle.reaching.specs.declared.answers.ReachAnswer.{ReachAnswer}
-use Rattle.reaching.specs.declared.answers.ReachAnswer.TheVariants.{Reach, Refused}
-use Rattle.reaching.specs.Passes.{Upward, ParentsOf, top_of, TopFound, Spine, Deepest, LevelsFound, FirstApart}
+use Rattle.minutes.specs.Rooted.{above}
+use Rattle.reaching.specs.Passes.{top_of, Spine, Deepest, ComponentFound, FirstApart}
 use Rattle.reaching.specs.Reach.{reach_questions, reach_in, reach_of, reach_answer_of}
+use Rattle.reaching.proofs.Topping.{Upward, ParentsOf}
 
 -- What a pass from the root of at's component finds: the depth of the component's last window, and the first window as deep.
 pub record Whole (n : ℕ) (overlaps : ℕ → ℕ → Bool) (at steps deep last : ℕ) : Type 0 where
@@ -226,144 +228,121 @@ module _ {n : ℕ} {overlaps : ℕ → ℕ → Bool} (ok : IntervalOrder n overl
 
 -- of an accepted plan, from what each pass of `farthest` answers
 
--- An accepted plan, its table of parents, a window of it, and what the pass from its component's root found.
-pub record Rooted (file parents : List ℕ) (windows at r steps deep last : ℕ) : Type 0 where
-  pub plan : AcceptedWindows file windows
-  pub held : Holds parents (parent_of file) windows
-  pub window : at < windows
-  pub rooted : r ≡ root (overlaps file) at
-  pub whole : Whole windows (overlaps file) at steps deep last
+module _ (file : List ℕ) (ok : AcceptedPlan file) where
+  order : IntervalOrder (window_count file) (overlaps file)
+  order = interval_order file ok
 
-module _ {file : List ℕ} {windows : ℕ} (plan : AcceptedWindows file windows) {parents : List ℕ} (held : Holds parents (parent_of file)
-    windows) where
-  given : ParentsOf windows (overlaps file) parents
-  unfolding parent_of
-  given = record { order = windows_order plan; held = held }
-
-  -- No parent stands behind its window.
-  pub upward : (at : ℕ) → at < windows → (at < length parents) × Upward parents at
-  unfolding parent_of
-  upward at h = (omega (arith, held.long), λ v l. omega (arith, held.at v (omega arith), parent_le (overlaps file) v))
-
-  module _ (at : ℕ) (window : at < windows) (t : ℕ) (found : TopFound parents at t) where
-    pub top_window : t < windows
-    top_window =
-        let k = depth (overlaps file) at - 1 in
-        omega (arith, found windows (overlaps file) given window, ancestor_le (tree (overlaps file)) k at)
-
-    -- The entry there is the root.
-    root_read : get_or parents t 0 ≡ root (overlaps file) at
+  module _ (parents : List ℕ) (held : Holds parents (parent_of file) (window_count file)) where
+    pub given : ParentsOf (window_count file) (overlaps file) parents
     unfolding parent_of
-    root_read =
-        held.at t top_window
-        ∙ (ap (parent (overlaps file)) (found windows (overlaps file) given window) ∙ top_parent (windows_order plan) at)
+    given = record { order = order; held = held }
 
-    pub root_window : get_or parents t 0 < windows
-    root_window = omega (arith, root_read, root_le (tree (overlaps file)) at)
+    -- No parent stands behind its window.
+    pub upward : (at : ℕ) → at < window_count file → Upward parents at
+    unfolding parent_of
+    upward at h v l = omega (arith, held.at v (omega arith), parent_le (overlaps file) v)
 
-    pub rooted_found : (steps deep last : ℕ) → LevelsFound parents windows (get_or parents t 0) steps deep last →
-        Rooted file parents windows at (get_or parents t 0) steps deep last
-    rooted_found steps deep last levels =
+    -- The entry of a window is its parent, or the window itself for a root.
+    pub entry_parent : (v p : ℕ) → Some p ≡ above file v → (get_or parents v 0 ≡ p) × (p < v)
+    entry_parent v p e =
+        let at : v < window_count file → get_or parents v 0 ≡ parent_of file v = held.at v in grind (arith, common_steps)
+
+    pub entry_root : (v : ℕ) → v < window_count file → None ≡ above file v → get_or parents v 0 ≡ v
+    unfolding parent_of
+    entry_root v h e =
+        let at = held.at v h in let le = parent_le (overlaps file) v in grind (arith, common_steps)
+
+    -- The entry of the top is the root.
+    pub root_read : (at t : ℕ) → at < window_count file → t ≡ top_of (overlaps file) at → get_or parents t 0 ≡ root (overlaps file) at
+    unfolding parent_of
+    root_read at t window e =
+        let below : t < window_count file = omega (arith, ancestor_le (tree (overlaps file)) (depth (overlaps file) at - 1) at) in
+        held.at t below ∙ (ap (parent (overlaps file)) e ∙ top_parent order at)
+
+  module _ (at : ℕ) (window : at < window_count file) where
+    pub root_window : root (overlaps file) at < window_count file
+    root_window = omega (arith, root_le (tree (overlaps file)) at)
+
+    pub spine_from : Spine (window_count file) (overlaps file) (root (overlaps file) at)
+    spine_from = root_spine order at window
+
+    pub last_window : last_in_component (window_count file) (overlaps file) at < window_count file
+    last_window = last_in_component_window (window_count file) (overlaps file) at window
+
+    -- What the pass from the root finds is the component.
+    pub component_found : (r steps first last top : ℕ) → r ≡ root (overlaps file) at →
+        Deepest (window_count file) (overlaps file) r steps first last → top ≡ top_of (overlaps file) last →
+        ComponentFound file at r steps first last top
+    component_found r steps first last top rooted levels topped =
+        let whole = whole_found order at window steps first last (rw rooted at levels) in
+        let inside = top_between order at window steps first last whole top topped in
         record {
-          plan = plan;
-          held = held;
-          window = window;
-          rooted = root_read;
-          whole = whole_found (windows_order plan) at window steps deep last
-              (rw root_read at (levels (overlaps file) given (rw root_read (root_spine (windows_order plan) at window))));
+          rooted = rooted;
+          levels = levels;
+          topped = topped;
+          few = omega (arith, whole.counted, depth_le (tree (overlaps file)) last);
+          low = omega (arith, inside, rooted);
+          high = inside.1;
+          window = whole.below;
         }
 
-module _ {file parents : List ℕ} {windows at r steps deep last : ℕ} (s : Rooted file parents windows at r steps deep last) where
-  ok : IntervalOrder windows (overlaps file)
-  ok = windows_order s.plan
+    module _ {r steps deep last top : ℕ} (s : ComponentFound file at r steps deep last top) where
+      whole : Whole (window_count file) (overlaps file) at steps deep last
+      whole = let e = s.rooted in whole_found order at window steps deep last (rw e at s.levels)
 
-  -- What it found is below the number of windows, which is small.
-  pub rooted_few : (steps < windows) × (deep < windows) × (r < windows) × (windows ≤ greatest_count)
-  rooted_few =
-      let w = s.whole in
-      omega (arith, w.counted, depth_le (tree (overlaps file)) last, w.below, w.high, w.low, s.rooted, windows_few s.plan)
-
-  module _ (top : ℕ) (found : TopFound parents last top) where
-    topped : top ≡ top_of (overlaps file) last
-    topped = found windows (overlaps file) (given s.plan s.held) s.whole.below
-
-    between : (root (overlaps file) at ≤ top) × (top ≤ last)
-    between = top_between ok at s.window steps deep last s.whole top topped
-
-    pub top_low : r ≤ top
-    top_low = omega (arith, between.0, s.rooted)
-
-    pub top_high : top < window_count file
-    top_high = omega (arith, between.1, s.whole.below, s.plan.counted)
-
-    module _ (u : ℕ) (seen : FirstApart file r top u) where
-      near : (w : ℕ) → root (overlaps file) at ≤ w → w < u → top ≤ Tree.last windows (overlaps file) w
-      unfolding last_of
-      near w l h = rw s.plan.counted (seen.before w (omega (arith, s.rooted)) h)
-
-      low : root (overlaps file) at ≤ u
-      low = omega (arith, seen.low, s.rooted)
-
-      pub smaller_few : u < greatest_count
-      smaller_few = omega (arith, seen.high, between.1, s.whole.below, rooted_few)
-
-      pub farthest_within : u ≡ top → Reach steps r deep ≡ reach_of file at
-      unfolding reach_in reach_of
-      farthest_within same =
-          let all = reach_within ok at s.window steps deep last s.whole top topped (λ w l h. near w l (omega arith)) in
-          let one = far_unique _ _ _ _ _ _ all (reach_far ok at s.window) in
-          rw (s.rooted, one.0, one.1, one.2, s.plan.counted)
-
-      module _ (other : u ≡ top → ⊥) where
-        pub seen_apart : last_of file u < top
-        seen_apart = seen.apart (⊎_elim (λ l. l) (λ l. absurd (other (omega (arith, seen.high)))) (lt_or_ge u top))
-
-        apart : Tree.last windows (overlaps file) u < top
+      module _ {u : ℕ} (seen : FirstApart file r top u) where
+        near : (w : ℕ) → root (overlaps file) at ≤ w → w < u → top ≤ Tree.last (window_count file) (overlaps file) w
         unfolding last_of
-        apart = rw s.plan.counted seen_apart
+        near w l h = seen.before w (omega (arith, s.rooted)) h
 
-        module _ (x : ℕ) (behind : x ≡ suc (last_of file u)) where
-          placed : x ≡ suc (Tree.last windows (overlaps file) u)
+        low : root (overlaps file) at ≤ u
+        low = omega (arith, seen.low, s.rooted)
+
+        pub farthest_within : u ≡ top → record { handovers = steps; smaller = r; larger = deep } ≡ reach_of file at
+        unfolding reach_in reach_of
+        farthest_within same =
+            let all = reach_within order at window steps deep last whole top s.topped (λ w l h. near w l (omega arith)) in
+            let one = far_unique _ _ _ _ _ _ all (reach_far order at window) in
+            rw (s.rooted, one.0, one.1, one.2)
+
+        module _ (other : u ≡ top → ⊥) where
+          pub seen_apart : last_of file u < top
+          seen_apart = seen.apart (⊎_elim (λ l. l) (λ l. absurd (other (omega (arith, seen.high)))) (lt_or_ge u top))
+
+          apart : Tree.last (window_count file) (overlaps file) u < top
           unfolding last_of
-          placed = rw s.plan.counted behind
+          apart = seen_apart
 
-          pub behind_window : x < windows
-          behind_window = rw placed (next_window ok at s.window steps deep last s.whole top topped u low apart near)
+          pub behind_window : suc (last_of file u) < window_count file
+          behind_window = omega (arith, seen_apart, s.high, s.window)
 
-          module _ (under v tail : ℕ) (found-under : LevelsFound parents windows x under v tail) where
-            deepest : Deepest windows (overlaps file) (suc (Tree.last windows (overlaps file) u)) under v tail
-            deepest =
-                rw placed at (found-under (overlaps file) (given s.plan s.held)
-                (rw placed (next_spine ok at s.window steps deep last s.whole top topped u low apart near)))
+          pub behind_spine : Spine (window_count file) (overlaps file) (suc (last_of file u))
+          unfolding last_of
+          behind_spine = next_spine order at window steps deep last whole top s.topped u low apart near
 
-            far : Far windows (overlaps file) at (steps + 1) u v
-            far = reach_beyond ok at s.window steps deep last s.whole top topped u low apart near under v tail deepest
+          module _ {under v tail : ℕ} (d : Deepest (window_count file) (overlaps file) (suc (last_of file u)) under v tail) where
+            far : Far (window_count file) (overlaps file) at (steps + 1) u v
+            unfolding last_of
+            far = reach_beyond order at window steps deep last whole top s.topped u low apart near under v tail d
 
-            pub larger_few : v < greatest_count
-            larger_few = omega (arith, far.mates.window, rooted_few)
+            pub larger_window : v < window_count file
+            larger_window = far.mates.window
 
-            pub farthest_beyond : Reach (steps + 1) u v ≡ reach_of file at
+            pub farthest_beyond : record { handovers = steps + 1; smaller = u; larger = v } ≡ reach_of file at
             unfolding reach_in reach_of
-            farthest_beyond =
-                let one = far_unique _ _ _ _ _ _ far (reach_far ok at s.window) in rw (one.0, one.1, one.2, s.plan.counted)
+            farthest_beyond = let one = far_unique _ _ _ _ _ _ far (reach_far order at window) in rw (one.0, one.1, one.2)
+
+pub ruleset from_root = (root_window, spine_from, last_window)
 
 -- The answers.
-module _ (file : List ℕ) (at : ℕ) (answer : Validation) (validated : answer ≡ validate_answer_of file) where
-  pub reach_refused : (refusal : Refusal) → answer ≡ Validation.Refused refusal → Refused refusal ≡ reach_answer_of file at
+module _ (file : List ℕ) (at : ℕ) (answer : Result Accepted Refusal) (validated : answer ≡ validate_answer_of file) where
+  pub reach_refused : (refusal : Refusal) → answer ≡ Err refusal → Err refusal ≡ reach_answer_of file at
   unfolding reach_answer_of reach_questions
-  reach_refused = plan_refused file _ Refused _ answer validated
+  reach_refused = plan_refused file _ Err _ answer validated
 
 module _ {file : List ℕ} {windows : ℕ} (plan : AcceptedWindows file windows) (at : ℕ) where
-  pub reach_past : windows ≤ at → Refused (refusal_by 7) ≡ reach_answer_of file at
-  unfolding reach_answer_of reach_questions position_question question
+  pub reach_past : windows ≤ at → Err (refusal_by 7) ≡ reach_answer_of file at
+  unfolding reach_answer_of reach_questions
   reach_past past =
       rw (← plan.counted)
-      (one_more_no file (position_question at windows) Refused _ _ refl _ _ (accepted_validated file plan.accepted) (le-ltb at windows
-      past))
-
-  pub reach_found : (answer : ReachAnswer) → at < windows → answer ≡ reach_of file at → answer ≡ reach_answer_of file at
-  unfolding reach_answer_of reach_questions position_question question
-  reach_found answer within found =
-      rw (found, ← plan.counted)
-      (one_more_yes file (position_question at windows) Refused _ _ refl _ _ (accepted_validated file plan.accepted) (lt-ltb at windows
-      within))
+      (one_more_no file (position_question at windows) Err _ _ refl _ _ (accepted_validated file plan.accepted) (le-ltb at windows past))

@@ -2,17 +2,15 @@
 -- Vocabulary: Seeking, Passing.
 -- Assumes nothing.
 use Prim.Native.Nat.{ℕ, suc, ◌+◌, ◌≤◌, ◌<◌}
-use mathlib.Core.{Bool.Bool, Bool.true, Bool.false, Bool.not, Path.◌≡◌, Path.ap, Path.◌∙◌, Logic.⊎_elim, List.List}
+use mathlib.Core.{Bool.true, Bool.false, Path.◌≡◌, Logic.⊎_elim, List.List}
 use native.Mathlib.Omega.{arith}
 use Rattle.sequences.proofs.Tests.{lt_or_ge}
 use Rattle.interval_graph.proofs.Last.{last_ge}
-use Rattle.plan.specs.declared.windows.Window.{Window}
-use Rattle.plan.specs.File.{window_count, minimum_handover, window_at, end_of}
+use Rattle.plan.specs.File.{window_count}
 use Rattle.plan.specs.Validation.{AcceptedPlan}
-use Rattle.overlap.specs.Overlap.{margin_reaches}
 use Rattle.overlap.proofs.InOrder.{interval_order}
 use Rattle.minutes.specs.Tables.{last_of}
-use Rattle.minutes.proofs.Reached.{asked_behind, asked_near}
+use Rattle.minutes.proofs.Reached.{reached, behind_last, not_behind}
 use Rattle.reaching.specs.Passes.{FirstApart}
 
 -- All windows so far overlap `top`.
@@ -37,10 +35,8 @@ module _ (file : List ℕ) (ok : AcceptedPlan file) where
     seeking_start h = record { low = omega arith; high = h; before = λ w l g. absurd (omega arith) }
 
     module _ (at : ℕ) (s : Seeking file from top at) where
-      module _ (within : at < top) (minimum end : ℕ) (earlier later : Window) (m : minimum ≡ minimum_handover file)
-          (e : earlier ≡ window_at file at) (ends : end ≡ end_of earlier) (l : later ≡ window_at file top) (asked : Bool)
-          (a : asked ≡ margin_reaches minimum end later.offset) where
-        pub seeking_turn : not asked ≡ false → Seeking file from top (at + 1)
+      module _ (within : at < top) where
+        pub seeking_turn : reached file at top ≡ true → Seeking file from top (at + 1)
         seeking_turn t =
             record {
               low = omega (arith, s.low);
@@ -49,19 +45,16 @@ module _ (file : List ℕ) (ok : AcceptedPlan file) where
             }
           where
             near : top ≤ last_of file at
-            near = asked_near file ok at (omega arith) top window minimum end later asked m (ends ∙ ap end_of e) l a t
+            near = not_behind file ok at (omega arith) top window t
 
-        pub seeking_found : not asked ≡ true → FirstApart file from top at
+        pub seeking_found : reached file at top ≡ false → FirstApart file from top at
         seeking_found t =
-            record {
-              low = s.low;
-              high = s.high;
-              apart = λ h. asked_behind file ok at (omega arith) top window minimum end later asked m (ends ∙ ap end_of e) l a t;
-              before = s.before;
-            }
+            record { low = s.low; high = s.high; apart = λ h. behind_last file ok at (omega arith) top window t; before = s.before }
 
-      pub seeking_none : top ≤ at → FirstApart file from top at
-      seeking_none h = record { low = s.low; high = s.high; apart = λ g. absurd (omega arith); before = s.before }
+      pub seeking_none : top ≤ at → FirstApart file from top top
+      seeking_none h =
+          let all : at ≡ top = omega (arith, s.high) in
+          record { low = rw all at s.low; high = omega arith; apart = λ g. absurd (omega arith); before = rw all at s.before }
 
   module _ (at to : ℕ) (window : to < window_count file) (far : last_of file at < to) where
     pub at_window : at < to
@@ -71,18 +64,16 @@ module _ (file : List ℕ) (ok : AcceptedPlan file) where
     passing_start = record { low = omega arith; high = omega (arith, own_last at); near = omega (arith, own_last at) }
 
     module _ (next : ℕ) (s : Passing file at to next) where
-      module _ (within : next < to) (minimum end : ℕ) (earlier later : Window) (m : minimum ≡ minimum_handover file)
-          (e : earlier ≡ window_at file at) (ends : end ≡ end_of earlier) (l : later ≡ window_at file next) (asked : Bool)
-          (a : asked ≡ margin_reaches minimum end later.offset) where
-        pub passing_turn : not asked ≡ false → Passing file at to (next + 1)
+      module _ (within : next < to) where
+        pub passing_turn : reached file at next ≡ true → Passing file at to (next + 1)
         passing_turn t =
-            let near = asked_near file ok at (omega (arith, s.low)) next (omega arith) minimum end later asked m (ends ∙ ap end_of e) l a t in
+            let near = not_behind file ok at (omega (arith, s.low)) next (omega arith) t in
             record { low = omega (arith, s.low); high = omega arith; near = omega arith }
 
-        pub passing_found : not asked ≡ true → next ≡ suc (last_of file at)
+        pub passing_found : reached file at next ≡ false → next ≡ suc (last_of file at)
         passing_found t =
-            let past = asked_behind file ok at (omega (arith, s.low)) next (omega arith) minimum end later asked m (ends ∙ ap end_of e) l a t in
+            let past = behind_last file ok at (omega (arith, s.low)) next (omega arith) t in
             omega (arith, s.near)
 
-      pub passing_ends : to ≤ next → next ≡ suc (last_of file at)
+      pub passing_ends : to ≤ next → to ≡ suc (last_of file at)
       passing_ends h = omega (arith, s.near)

@@ -1,16 +1,30 @@
 -- The way up to the window whose parent is a root.
--- Vocabulary: Topping.
+-- Vocabulary: Upward, ParentsOf, TopFound, Topping.
 -- Assumes nothing.
 use Prim.Native.Nat.{ℕ, suc, ◌-◌, ◌≤◌, ◌<◌}
 use mathlib.Core.{Bool.Bool, Path.◌≡◌, Path.sym, Path.ap, Path.◌∙◌, Logic.⊎_elim, List.List}
 use native.Mathlib.Omega.{arith}
 use lib.ListN.{get_or}
 use Rattle.sequences.proofs.Tests.{lt_or_ge}
+use Rattle.sequences.specs.Table.{Holds}
+use Rattle.interval_graph.specs.Order.{IntervalOrder}
 use Rattle.interval_graph.specs.Tree.{parent, ancestor, depth}
 use Rattle.interval_graph.proofs.Ancestor.{ancestor_zero, ancestor_suc}
 use Rattle.interval_graph.proofs.Depth.{fixed_root, root_parent, depth_minimal, ancestor_past}
 use Rattle.interval_graph.proofs.Parent.{tree}
-use Rattle.reaching.specs.Passes.{Upward, ParentsOf, TopFound}
+use Rattle.reaching.specs.Passes.{top_of}
+
+-- No entry up to a position points behind its own.
+abbrev pub Upward : List ℕ → ℕ → Type 0
+Upward parents at = (v : ℕ) → v ≤ at → get_or parents v 0 ≤ v
+
+-- n windows with an overlap test in interval order, and a table of their parents. What is found in a table alone is said of every such test.
+pub record ParentsOf (n : ℕ) (overlaps : ℕ → ℕ → Bool) (parents : List ℕ) : Type 0 where
+  pub order : IntervalOrder n overlaps
+  pub held : Holds parents (parent overlaps) n
+
+abbrev pub TopFound : List ℕ → (v r : ℕ) → Type 0
+TopFound parents v r = (n : ℕ) (overlaps : ℕ → ℕ → Bool) → ParentsOf n overlaps parents → v < n → r ≡ top_of overlaps v
 
 -- Where the way up stands, the parent there, and, of every overlap test, how many steps it made: it is not yet at the root.
 pub record Topping (parents : List ℕ) (from at up : ℕ) : Type 0 where

@@ -1,27 +1,15 @@
 -- What the passes behind `reach` are handed and what they find. Nothing here has to be believed: no public promise cites it.
--- Vocabulary: Upward, ParentsOf; top_of, TopFound; Spine, Deepest, LevelsFound; FirstApart.
-use Rattle.std.specs.Prelude.{ℕ, ◌+◌, ◌-◌, ◌≤◌, ◌<◌, get_or}
+-- Vocabulary: top_of; Spine, Deepest; ComponentFound; FirstApart.
+use Rattle.std.specs.Prelude.{ℕ, ◌+◌, ◌-◌, ◌≤◌, ◌<◌}
 use mathlib.Core.{Bool.Bool, Path.◌≡◌, List.List}
-use Rattle.sequences.specs.Table.{Holds}
-use Rattle.interval_graph.specs.{Order.IntervalOrder, Tree.parent, Tree.ancestor, Tree.depth, Reach.last_in_component}
+use Rattle.interval_graph.specs.{Tree.ancestor, Tree.depth, Tree.root, Reach.last_in_component}
+use Rattle.plan.specs.File.{window_count}
+use Rattle.overlap.specs.Overlap.{overlaps}
 use Rattle.minutes.specs.Tables.{last_of}
-
--- No entry up to a position points behind its own.
-abbrev pub Upward : List ℕ → ℕ → Type 0
-Upward parents at = (v : ℕ) → v ≤ at → get_or parents v 0 ≤ v
-
--- n windows with an overlap test in interval order, and a table of their parents. No plan is in sight, so what is found is said of every
--- such test.
-pub record ParentsOf (n : ℕ) (overlaps : ℕ → ℕ → Bool) (parents : List ℕ) : Type 0 where
-  pub order : IntervalOrder n overlaps
-  pub held : Holds parents (parent overlaps) n
 
 -- The ancestor of depth 1, or a root itself.
 abbrev pub top_of : (ℕ → ℕ → Bool) → ℕ → ℕ
 top_of overlaps v = ancestor overlaps (depth overlaps v - 1) v
-
-abbrev pub TopFound : List ℕ → (v r : ℕ) → Type 0
-TopFound parents v r = (n : ℕ) (overlaps : ℕ → ℕ → Bool) → ParentsOf n overlaps parents → v < n → r ≡ top_of overlaps v
 
 -- The ancestor of the component's last window on the level of `from` is not before `from`.
 abbrev pub Spine : ℕ → (ℕ → ℕ → Bool) → ℕ → Type 0
@@ -40,10 +28,15 @@ pub record Deepest (n : ℕ) (overlaps : ℕ → ℕ → Bool) (from steps first
   pub above : from ≤ ancestor overlaps steps first
   pub before : (w : ℕ) → from ≤ w → w < first → depth overlaps w ≡ depth overlaps last → ancestor overlaps steps w < from
 
-abbrev pub LevelsFound : List ℕ → (windows from steps first last : ℕ) → Type 0
-LevelsFound parents windows from steps first last =
-    (overlaps : ℕ → ℕ → Bool) → ParentsOf windows overlaps parents → Spine windows overlaps from →
-    Deepest windows overlaps from steps first last
+-- The component of the window at a position: its root, its levels from there, and the top of its last window.
+pub record ComponentFound (file : List ℕ) (at r steps first last top : ℕ) : Type 0 where
+  pub rooted : r ≡ root (overlaps file) at
+  pub levels : Deepest (window_count file) (overlaps file) r steps first last
+  pub topped : top ≡ top_of (overlaps file) last
+  pub few : steps ≤ last
+  pub low : r ≤ top
+  pub high : top ≤ last
+  pub window : last < window_count file
 
 -- r is the first window from `from` on whose last is before `top`, or `top`.
 pub record FirstApart (file : List ℕ) (from top r : ℕ) : Type 0 where

@@ -6,5 +6,5 @@ mod farthest;
 mod levels;
 mod overlaps;
 
-pub use answers::ReachAnswer;
+pub use answers::Reach;
 pub use farthest::reach;

@@ -1,20 +1,35 @@
--- `reaching::levels::levels_from` meets its contract. The loop's invariant is `Levelling`; the measure is what is left of the windows.
+-- The loop's invariant is `Levelling`.
+use Rattle.std.proofs.Common.{refl, arith}
 use Rattle.reaching.proofs.Levelling.{levelling_start, levelling_level, levelling_same, levelling_stops, levelling_ends}
+use Rattle.reaching.proofs.Reached.{given, entry_parent, entry_root}
 use Rattle.reaching.proofs.levels.levels_from.Goals as goal
+use Rattle.reaching.proofs.levels.levels_from.Goals.{then-begins, else-begins}
 
-pub loop-last-init : goal.loop-last-init
-loop-last-init c = levelling_start _ _ _ c.requires.from_lt_windows
+pub loop-next-init : goal.loop-next-init
+loop-next-init c = (refl, levelling_start _ _ _ c.requires.from_bound)
 
-pub returns-then-parent-next : goal.returns-then-parent-next
-returns-then-parent-next c = levelling_stops _ _ _ _ _ _ c.loop-last.invariant c.loop-last-test.true c.if-parent-next.true
+pub returns-in_default : goal.returns-in_default
+returns-in_default c =
+    let tree = c.args.tree.now in
+    let s = c.loop-next in
+    levelling_stops _ _ _ _ _ _ s.invariant.1 _ s.invariant.0 (omega arith)
+    (entry_root _ tree.plan.accepted _ tree.held _ (omega arith) c.in_default.ensures) _ (given _ tree.plan.accepted _ tree.held) c.requires.spine
 
-pub loop-last-preserved-then-first-parent : goal.loop-last-preserved-then-first-parent
-loop-last-preserved-then-first-parent c = levelling_level _ _ _ _ _ _ c.loop-last.invariant c.loop-last-test.true
-    c.if-parent-next.false c.if-first-parent.true
-
-pub loop-last-preserved : goal.loop-last-preserved
-loop-last-preserved c = levelling_same _ _ _ _ _ _ c.loop-last.invariant c.loop-last-test.true
-    c.if-parent-next.false c.if-first-parent.false
+pub loop-next-preserved : goal.loop-next-preserved
+loop-next-preserved c =
+    let tree = c.args.tree.now in
+    let s = c.loop-next in
+    let entry = entry_parent _ tree.plan.accepted _ tree.held _ _ c.in-Some.ensures in (
+      refl,
+      elim c.if-begins.branch [
+        | then-begins w ↦ rw (w.steps-is, w.first-is)
+            (levelling_level _ _ _ _ _ _ s.invariant.1 _ s.invariant.0 (omega arith) (λ e. omega arith) (omega (arith, w.if-begins.true)))
+        | else-begins w ↦ rw (w.steps-is, w.first-is)
+            (levelling_same _ _ _ _ _ _ s.invariant.1 _ s.invariant.0 (omega arith) (λ e. omega arith) (omega (arith, w.if-begins.false)))
+      ],
+    )
 
 pub returns : goal.returns
-returns c = levelling_ends _ _ _ _ _ _ c.loop-last.invariant c.loop-last-test.false
+returns c =
+    let tree = c.args.tree.now in
+    levelling_ends _ _ _ _ _ _ c.loop-next.invariant.1 (omega arith) _ (given _ tree.plan.accepted _ tree.held) c.requires.spine
