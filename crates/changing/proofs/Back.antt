@@ -8,7 +8,6 @@ use borrow.Author.Tests.{lt-ltb, le-leb}
 use Rattle.sequences.specs.Table.{table}
 use Rattle.sequences.proofs.{Tests.lt_or_ge, Tests.equal_or_not, Table.table_cong}
 use Rattle.plan.specs.declared.windows.Window.{Window}
-use Rattle.refusals.specs.Question.{question, position_question, all_yes}
 use Rattle.plan.specs.File.{window_count, minimum_handover, window_at, end_of}
 use Rattle.plan.specs.Validation.{greatest_count, greatest_end, AcceptedPlan}
 use Rattle.plan.proofs.Acceptance.{accepted_sound, offsets_sorted}
@@ -32,7 +31,7 @@ added_withdrawn file plan other w =
 -- It can be withdrawn there.
 pub added_withdrawable : (file : List ℕ) (plan other : ℕ) (w : Window) → AcceptedChange file (adding plan w) → other ≢ plan →
     AcceptedChange (changed_file file (adding plan w)) (withdrawing other (added_place file w))
-unfolding has_place edit_questions position_question question all_yes
+unfolding has_place edit_questions
 added_withdrawable file plan other w ok new =
     let more = changed_file file (adding plan w) in
     accept_change more (withdrawing other (added_place file w)) (change_accepted file (adding plan w) ok) refl
@@ -42,7 +41,7 @@ added_withdrawable file plan other w ok new =
 -- A window that is withdrawn can be added again.
 pub withdrawn_addable : (file : List ℕ) (plan other at : ℕ) → AcceptedChange file (withdrawing plan at) → other ≢ plan →
     AcceptedChange (changed_file file (withdrawing plan at)) (adding other (window_at file at))
-unfolding has_place edit_questions question all_yes
+unfolding has_place edit_questions
 withdrawn_addable file plan other at ok new =
     let fewer = changed_file file (withdrawing plan at) in let s = accepted_sound file (change_plan file (withdrawing plan at) ok) in
     let there = change_withdrawn file plan at ok in let w = window_at file at in let same = changed_minimum file (withdrawing plan at) in

@@ -1,54 +1,41 @@
 -- The pass that counts the windows with at most an offset.
--- Vocabulary: Counted, counted_*.
+-- Vocabulary: place_none, place_more, place_kept, place_few; Counted, counted_end.
 -- Assumes nothing.
 use Prim.Native.Nat.{ℕ, ◌+◌, ◌≤◌, ◌<◌}
-use mathlib.Core.{Path.◌≡◌, Path.refl, Path.sym, Path.◌∙◌, List.List}
+use mathlib.Core.{Path.◌≡◌, Path.refl, List.List}
 use native.Mathlib.{Omega.arith, Numerals.add-one}
 use lib.Dec.{leb}
 use borrow.Author.Tests.{le-leb, lt-leb}
 use Rattle.sequences.specs.Search.{count}
 use Rattle.sequences.proofs.Search.{count_true, count_false, count_le}
-use Rattle.plan.specs.declared.windows.Window.{Window}
 use Rattle.plan.specs.File.{window_at}
 use Rattle.changing.specs.Steps.{place_of}
-use Rattle.changing.proofs.Changed.{same_offset}
 
+module _ (file : List ℕ) (v offset : ℕ) where
+  pub place_more : (window_at file v).offset ≤ offset → place_of file (v + 1) offset ≡ place_of file v offset + 1
+  unfolding place_of
+  place_more passes =
+      rw (add-one v) (omega (arith, count_true (λ u. leb (window_at file u).offset offset) v (le-leb (window_at file v).offset offset passes)))
+
+  pub place_kept : offset < (window_at file v).offset → place_of file (v + 1) offset ≡ place_of file v offset
+  unfolding place_of
+  place_kept fails = rw (add-one v) (count_false (λ u. leb (window_at file u).offset offset) v (lt-leb (window_at file v).offset offset fails))
+
+  pub place_few : place_of file v offset ≤ v
+  unfolding place_of
+  place_few = count_le (λ u. leb (window_at file u).offset offset) v
+
+pub place_none : (file : List ℕ) (offset : ℕ) → place_of file 0 offset ≡ 0
+unfolding place_of count
+place_none file offset = refl
+
+pub ruleset placing = (place_none, place_more, place_kept, place_few)
+
+-- The same as one fact, before a position.
 pub record Counted (file : List ℕ) (windows offset place position : ℕ) : Type 0 where
   pub within : position ≤ windows
   pub so_far : place ≡ place_of file position offset
 
-module _ (file : List ℕ) (windows offset : ℕ) where
-  pub counted_start : Counted file windows offset 0 0
-  unfolding place_of count
-  counted_start = record { within = omega arith; so_far = refl }
-
-  pub counted_few : (place position : ℕ) → Counted file windows offset place position → place ≤ position
-  unfolding place_of
-  counted_few place position s = omega (arith, s.so_far, count_le (λ v. leb (window_at file v).offset offset) position)
-
-  module _ (place position : ℕ) (w : Window) (read : w ≡ window_at file position) (left : position < windows)
-      (s : Counted file windows offset place position) where
-    pub counted_more : w.offset ≤ offset → Counted file windows offset (place + 1) (position + 1)
-    unfolding place_of
-    counted_more passes =
-        record {
-          within = omega arith;
-          so_far = rw (add-one position) (omega (
-            arith,
-            s.so_far,
-            count_true (λ v. leb (window_at file v).offset offset) position
-                (le-leb (window_at file position).offset offset (omega (arith, same_offset read))),
-          ));
-        }
-
-    pub counted_kept : offset < w.offset → Counted file windows offset place (position + 1)
-    unfolding place_of
-    counted_kept fails =
-        record {
-          within = omega arith;
-          so_far = rw (add-one position) (s.so_far ∙ sym (count_false (λ v. leb (window_at file v).offset offset) position
-              (lt-leb (window_at file position).offset offset (omega (arith, same_offset read)))));
-        }
-
-  pub counted_end : (place position : ℕ) → windows ≤ position → Counted file windows offset place position → place ≡ place_of file windows offset
-  counted_end place position done s = let e : position ≡ windows = omega (arith, s.within) in rw e at s.so_far
+pub counted_end : (file : List ℕ) (windows offset place position : ℕ) → windows ≤ position → Counted file windows offset place position →
+    place ≡ place_of file windows offset
+counted_end file windows offset place position done s = let e : position ≡ windows = omega (arith, s.within) in rw e at s.so_far

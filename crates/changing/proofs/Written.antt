@@ -1,9 +1,9 @@
 -- The changed plan's bytes, as the code puts them together: the header, the windows before the place as the bytes that they are, the
 -- added window, and the windows behind as the bytes that they are.
--- Vocabulary: part_copied, place_read, with_written, with_long, with_room, without_written, without_long, without_room.
+-- Vocabulary: part_copied, place_added, with_long, without_long, with_written, without_written.
 -- Assumes nothing.
 use Prim.Native.Nat.{ℕ, suc, ◌+◌, ◌-◌, ◌*◌, ◌≤◌, ◌<◌}
-use mathlib.Core.{Path.◌≡◌, Path.sym, Path.ap, Path.◌∙◌, List.List, List.◌∷◌, List.◌++◌, List.append_assoc}
+use mathlib.Core.{Path.◌≡◌, Path.refl, Path.sym, Path.ap, Path.◌∙◌, List.List, List.◌∷◌, List.◌++◌, List.append_assoc}
 use mathlib.Core.List.{flat_map}
 use native.Mathlib.Omega.{arith}
 use lib.ListN.{length, get_or, take, drop, length-append, length-drop}
@@ -18,10 +18,11 @@ use Rattle.plan.specs.declared.windows.Window.{Window}
 use Rattle.plan.specs.File.{header_length, window_length, window_place, file_length, window_count, minimum_handover}
 use Rattle.plan.specs.File.{header_bytes, window_bytes, file_of}
 use Rattle.plan.specs.Validation.{AcceptedPlan}
-use Rattle.plan.proofs.Acceptance.{accepted_sound}
+use Rattle.plan.proofs.Acceptance.{few_windows, whole_file}
 use Rattle.plan.proofs.Written.{length-window_bytes, length-header_bytes, front_long, windows_front, windows_behind}
 use Rattle.changing.specs.Change.{windows_of, added_place, inserted_at, removed_at, changed_windows, changed_file, adding, withdrawing}
-use Rattle.changing.specs.Steps.{place_of, Addable, Withdrawable}
+use Rattle.changing.specs.Steps.{place_of}
+use Rattle.changing.proofs.Placed.{place_few}
 use Rattle.changing.proofs.Changed.{changed_whole, changed_count}
 use Rattle.changing.proofs.{Added.place_le, Added.added_count, Withdrawn.withdrawn_count}
 
@@ -36,11 +37,10 @@ part_copied file l from end to part within room e =
     let rest : post_of to (to + k - to) l ≡ drop (to + k) l = Post-is to (to + k) l (omega arith) in
     rw (e, rest, long, le-leb (to + k) (length l) room) (sym (append_assoc (take to l) src (drop (to + k) l)))
 
--- Where an added window goes, by what the code reads.
-pub place_read : (file : List ℕ) (w : Window) (windows at place : ℕ) → windows ≡ window_count file → at ≡ place_of file windows w.offset →
-    place ≡ window_place at → place ≡ window_place (added_place file w)
+-- Where an added window goes, as the code counts.
+pub place_added : (file : List ℕ) (w : Window) → place_of file (window_count file) w.offset ≡ added_place file w
 unfolding added_place place_of
-place_read file w windows at place counted found e = rw (← counted, ← found) e
+place_added file w = refl
 
 -- Three runs of bytes, each right behind the one before it, from the front on.
 three_placed : (l h f g : List ℕ) (p q : ℕ) → p ≡ length h → q ≡ p + length f → length h + length f + length g ≤ length l →
@@ -58,32 +58,20 @@ four_placed l h f x g p q r hp hq hr room =
     rw hr (placed_behind (placed (placed l 0 h) p f) q x g (omega arith)
     ∙ three_placed l h f (x ++ g) p q hp hq (omega (arith, length-append x g)))
 
--- How long the changed file is; what is copied lies in the file, and there is room for it.
+-- How long the changed file is.
 module _ (file : List ℕ) (ok : AcceptedPlan file) (plan : ℕ) where
-  whole : length file ≡ file_length (window_count file)
-  whole = (accepted_sound file ok).whole
+  pub with_long : (w : Window) → length (changed_file file (adding plan w)) ≡ length file + window_length
+  with_long w = omega (arith, changed_whole file (adding plan w), added_count file plan w, whole_file file ok)
 
-  module _ (w : Window) where
-    pub with_long : length file + window_length ≡ length (changed_file file (adding plan w))
-    with_long = omega (arith, changed_whole file (adding plan w), added_count file plan w, whole)
+  pub without_long : (at : ℕ) → at < window_count file → length (changed_file file (withdrawing plan at)) + window_length ≡ length file
+  without_long at there = omega (arith, changed_whole file (withdrawing plan at), withdrawn_count file plan at there, whole_file file ok)
 
-    pub with_room : (place room : ℕ) → place ≡ window_place (added_place file w) → Addable file plan w room →
-        (header_length ≤ place) × (place ≤ length file) × (length file + window_length ≤ room)
-    with_room place room e s =
-        let long = with_long in let within = place_le file w in (omega arith, omega (arith, whole), omega (arith, s.fits))
-
-  module _ (at : ℕ) (there : at < window_count file) where
-    pub without_long : length file - window_length ≡ length (changed_file file (withdrawing plan at))
-    without_long = omega (arith, changed_whole file (withdrawing plan at), withdrawn_count file plan at there, whole)
-
-    pub without_room : (place room : ℕ) → place ≡ window_place at → Withdrawable file plan at room →
-        (header_length ≤ place) × (place + window_length ≤ length file) × (length file ≤ room + window_length)
-    without_room place room e s =
-        let long = without_long in (omega arith, omega (arith, whole), omega (arith, s.fits))
+-- What the writing cites.
+pub ruleset sizes = (with_long, without_long, place_few, whole_file)
 
 module _ (file : List ℕ) (ok : AcceptedPlan file) (bytes : (i : ℕ) → get_or file i 0 < 256) (plan : ℕ) (l : List ℕ) where
   long : length file ≡ file_length (window_count file)
-  long = (accepted_sound file ok).whole
+  long = whole_file file ok
 
   -- The bytes before the place of a window, and those from it on.
   front : (at place : ℕ) → place ≡ window_place at → at ≤ window_count file →

@@ -1,15 +1,15 @@
--- Paper 02, Q-6: "The window's own 4 and 5 come after 16 and carry position 0, after which 7 and 8 apply. Turned away: 15, an addition to
--- 2,048 windows, after the plan's checks; 16, a new plan number equal to the old, after 15."
+-- What a change is asked, in turn, and what is answered: 15, an addition to 2,048 windows, comes after the plan's own questions, 16, a new
+-- plan number equal to the old, after 15, and then the added window's own 4 and 5, with position 0, or 7 of the position to withdraw; 8 last.
 -- Vocabulary: has_place, edit_questions, record_questions, AcceptedChange, both_fit, change_questions, change_answer_of, after_change.
-use Rattle.std.specs.Prelude.{ℕ, ◌*◌, Bool, true, not, ◌&&◌, ◌≡◌, List, [], ◌∷◌, ◌++◌, length, ltb, leb, eqb}
+use Rattle.std.specs.Prelude.{ℕ, ◌*◌, Bool, true, not, ◌&&◌, ◌≡◌, List, [], ◌∷◌, ◌++◌, length, ltb, leb, eqb, Result, Ok, Err}
 use Rattle.sequences.specs.Table.{overwritten}
+use Rattle.refusals.specs.declared.refusal.Refusal.{Refusal}
 use Rattle.refusals.specs.Question.{Question, question, position_question, first_no, all_yes}
 use Rattle.plan.specs.File.{plan_number, window_count, minimum_handover}
 use Rattle.plan.specs.Validation.{greatest_count, own_questions, plan_questions}
 use Rattle.tag_bytes.specs.Fields.{tag_length}
-use Rattle.numbering.specs.declared.answers.BuildAnswer.{BuildAnswer}
-use Rattle.numbering.specs.declared.answers.BuildAnswer.TheVariants.{Built, Refused}
-use Rattle.numbering.specs.Tables.{component_count}
+use Rattle.numbering.specs.declared.filling.Built.{Built}
+use Rattle.numbering.specs.{Tables.component_count, Numbering.built_as}
 use Rattle.changing.specs.declared.records.Edit.{Edit}
 use Rattle.changing.specs.declared.records.Edit.TheVariants.{Add, Withdraw}
 use Rattle.changing.specs.declared.records.Change.{Change}
@@ -45,12 +45,12 @@ module _ (file : List ℕ) (c : Change) where
   change_questions changed tags = plan_questions file ++ (record_questions ++ (question 8 (both_fit changed tags) ∷ []))
 
   -- The answer for every file, change and buffers: the first "no", or what build answers of the changed plan.
-  unfoldable pub change_answer_of : (changed tags : ℕ) → BuildAnswer
+  unfoldable pub change_answer_of : (changed tags : ℕ) → Result Built Refusal
   change_answer_of changed tags =
-      first_no (change_questions changed tags) Refused
-      (Built (plan_number (changed_file file c)) (window_count (changed_file file c)) (component_count (changed_file file c)))
+      first_no (change_questions changed tags) Err
+      (built_as (plan_number (changed_file file c)) (window_count (changed_file file c)) (component_count (changed_file file c)))
 
 -- The buffer of the changed plan afterwards, where what is to be written is new; that of the tag file is `after_tags`.
-unfoldable pub after_change : BuildAnswer → (new before : List ℕ) → List ℕ
-after_change (Built plan windows components) new before = overwritten before new
-after_change (Refused refusal) new before = before
+unfoldable pub after_change : Result Built Refusal → (new before : List ℕ) → List ℕ
+after_change (Ok whole) new before = overwritten before new
+after_change (Err refusal) new before = before

@@ -8,5 +8,5 @@ mod records;
 mod writing;
 
 pub use applying::apply;
-pub use numbering::BuildAnswer;
+pub use numbering::Built;
 pub use records::{Change, Edit};

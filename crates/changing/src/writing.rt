@@ -1,16 +1,19 @@
 // The changed plan, written: its header, and the windows that stay as the bytes that they are.
-ghost use Rattle.std.specs.Prelude.{◌≡◌, ◌+◌, ◌-◌, ◌≤◌, length, take, drop};
+ghost use Rattle.std.specs.Prelude.{◌≡◌, ◌+◌, ◌-◌, ◌≤◌, ◌<◌, length, take, drop};
 ghost use Rattle.sequences.specs.Table.{overwritten};
 ghost use Rattle.wire.specs.LittleEndian.{placed};
+ghost use Rattle.plan.specs.File.{window_count};
+ghost use Rattle.plan.specs.Plan.{bytes_of};
+ghost use Rattle.plan.specs.Validation.{greatest_count};
 ghost use Rattle.changing.specs.Change.{changed_file, adding, withdrawing};
 ghost use Rattle.changing.specs.Questions.{AcceptedChange};
-ghost use Rattle.changing.specs.Steps.{Addable, Withdrawable};
 
 use crate::places::place_of;
 use crate::records::{Change, Edit};
-use plan::{HEADER_LENGTH, WINDOW_LENGTH, Window};
+use plan::{HEADER_LENGTH, Plan, WINDOW_LENGTH, Window};
 
 // Writes the bytes of a file from `from` up to, not including, `end` at `to`.
+#[tactic(auto, using(crate::proofs::Written::part_copied))]
 fn copy_part(file: &[u8], from: usize, end: usize, changed: &mut [u8], to: usize)
     requires from_le_end { from ≤ end }
     requires end_in_bounds { end ≤ length file.now }
@@ -21,28 +24,34 @@ fn copy_part(file: &[u8], from: usize, end: usize, changed: &mut [u8], to: usize
 }
 
 // The plan with a window more. How many bytes it has is returned.
-fn write_with(file: &[u8], plan: u16, window: Window, changed: &mut [u8]) -> usize
-    requires { Addable file.now plan window (length changed.old) }
-    ensures value { result ≡ length (changed_file file.now (adding plan window)) }
-    ensures changed_after { changed.new ≡ overwritten changed.old (changed_file file.now (adding plan window)) }
+#[tactic(auto, using(crate::proofs::Written::sizes))]
+fn write_with(plan: &Plan, number: u16, window: Window, changed: &mut [u8]) -> usize
+    requires few { window_count (bytes_of plan.now) < greatest_count }
+    requires fits { length (changed_file (bytes_of plan.now) (adding number window)) ≤ length changed.old }
+    ensures value { result ≡ length (changed_file (bytes_of plan.now) (adding number window)) }
+    ensures changed_after { changed.new ≡ overwritten changed.old (changed_file (bytes_of plan.now) (adding number window)) }
 {
-    let windows = wire::read_u16(file, 2);
-    plan::write_header(plan, windows + 1, plan::minimum_handover(file), changed);
-    let place = plan::window_place(place_of(file, windows, window.offset));
+    let file = plan.bytes();
+    let windows = plan.len() as u16;
+    plan::write_header(number, windows + 1, plan.minimum(), changed);
+    let place = plan::window_place(place_of(plan, window.offset));
     copy_part(file, HEADER_LENGTH, place, changed, HEADER_LENGTH);
-    plan::write_window(window, changed, place);
+    window.write(changed, place);
     copy_part(file, place, file.len(), changed, place + WINDOW_LENGTH);
     file.len() + WINDOW_LENGTH
 }
 
 // The plan with a window less.
-fn write_without(file: &[u8], plan: u16, at: usize, changed: &mut [u8]) -> usize
-    requires { Withdrawable file.now plan at (length changed.old) }
-    ensures value { result ≡ length (changed_file file.now (withdrawing plan at)) }
-    ensures changed_after { changed.new ≡ overwritten changed.old (changed_file file.now (withdrawing plan at)) }
+#[tactic(auto, using(crate::proofs::Written::sizes))]
+fn write_without(plan: &Plan, number: u16, at: usize, changed: &mut [u8]) -> usize
+    requires there { at < window_count (bytes_of plan.now) }
+    requires fits { length (changed_file (bytes_of plan.now) (withdrawing number at)) ≤ length changed.old }
+    ensures value { result ≡ length (changed_file (bytes_of plan.now) (withdrawing number at)) }
+    ensures changed_after { changed.new ≡ overwritten changed.old (changed_file (bytes_of plan.now) (withdrawing number at)) }
 {
-    let windows = wire::read_u16(file, 2);
-    plan::write_header(plan, windows - 1, plan::minimum_handover(file), changed);
+    let file = plan.bytes();
+    let windows = plan.len() as u16;
+    plan::write_header(number, windows - 1, plan.minimum(), changed);
     let place = plan::window_place(at as u16);
     copy_part(file, HEADER_LENGTH, place, changed, HEADER_LENGTH);
     copy_part(file, place + WINDOW_LENGTH, file.len(), changed, place);
@@ -50,15 +59,15 @@ fn write_without(file: &[u8], plan: u16, at: usize, changed: &mut [u8]) -> usize
 }
 
 // The changed plan. How many bytes it has is returned.
-pub(crate) fn write_changed(file: &[u8], change: Change, changed: &mut [u8]) -> usize
-    requires accepted_change { AcceptedChange file.now change }
-    requires change_in_bounds { length (changed_file file.now change) ≤ length changed.old }
-    ensures value { result ≡ length (changed_file file.now change) }
-    ensures changed_after { changed.new ≡ overwritten changed.old (changed_file file.now change) }
+#[tactic(auto, using(crate::proofs::Applied::editing))]
+pub(crate) fn write_changed(plan: &Plan, change: Change, changed: &mut [u8]) -> usize
+    requires accepted_change { AcceptedChange (bytes_of plan.now) change }
+    requires change_in_bounds { length (changed_file (bytes_of plan.now) change) ≤ length changed.old }
+    ensures value { result ≡ length (changed_file (bytes_of plan.now) change) }
+    ensures changed_after { changed.new ≡ overwritten changed.old (changed_file (bytes_of plan.now) change) }
 {
-    let edit = change.edit;
-    match edit {
-        Edit::Add(window) => write_with(file, change.plan, window, changed),
-        Edit::Withdraw(at) => write_without(file, change.plan, at, changed),
+    match change.edit {
+        Edit::Add(window) => write_with(plan, change.plan, window, changed),
+        Edit::Withdraw(at) => write_without(plan, change.plan, at, changed),
     }
 }

@@ -8,7 +8,8 @@ use Rattle.plan.specs.{declared.windows.Window.Window, File.file_of, Even.end_be
 use Rattle.plan.proofs.Plan12.{file}
 use Rattle.tag_bytes.specs.Fields.{short_bytes}
 use Rattle.tag_bytes.specs.TagFile.{short_tag_file}
-use Rattle.numbering.specs.declared.answers.BuildAnswer.TheVariants.{Built, Refused}
+use Rattle.std.specs.Prelude.{Err}
+use Rattle.numbering.specs.Numbering.{built_as}
 use Rattle.numbering.specs.Tables.{numbers_at}
 use Rattle.numbering.proofs.Plan12.{numbered}
 use Rattle.even_tags.specs.ShortTags.{short_tags_questions, short_tags_answer_of, after_short_tags}
@@ -27,7 +28,7 @@ answers = tt
 
 -- A table that just holds the tags, and one byte less; 13 comes before 8.
 pub even_built : short_tags_answer_of even 32 ∷ short_tags_answer_of even 31 ∷ short_tags_answer_of file 56 ∷ short_tags_answer_of file 0 ∷ []
-    ≡ Built 5 4 1 ∷ Refused (refusal_by 8) ∷ Refused (refusal_about 1 (refusal_by 13)) ∷ Refused (refusal_about 1 (refusal_by 13)) ∷ []
+    ≡ built_as 5 4 1 ∷ Err (refusal_by 8) ∷ Err (refusal_about 1 (refusal_by 13)) ∷ Err (refusal_about 1 (refusal_by 13)) ∷ []
 unfolding answers
 even_built = refl
 
@@ -38,7 +39,7 @@ unfolding answers
 even_tags = refl
 
 -- What lies past them stays, and a refusal alters nothing.
-pub even_after : after_short_tags (Built 5 1 1) (numbers_at even) (9 ∷ 9 ∷ 9 ∷ 9 ∷ 9 ∷ 9 ∷ 9 ∷ 9 ∷ 9 ∷ []) ∷ after_short_tags (Refused (refusal_by 8))
+pub even_after : after_short_tags (built_as 5 1 1) (numbers_at even) (9 ∷ 9 ∷ 9 ∷ 9 ∷ 9 ∷ 9 ∷ 9 ∷ 9 ∷ 9 ∷ []) ∷ after_short_tags (Err (refusal_by 8))
     (numbers_at even) (9 ∷ []) ∷ [] ≡ (5 ∷ 0 ∷ 0 ∷ 0 ∷ 0 ∷ 0 ∷ 3 ∷ 0 ∷ 9 ∷ []) ∷ (9 ∷ []) ∷ []
 unfolding answers
 even_after = refl

@@ -3,7 +3,6 @@
 use Rattle.std.specs.Prelude.{ℕ, ◌≤◌, ◌<◌, true, ◌≡◌, List, length, get_or}
 use Rattle.sequences.specs.Table.{Holds}
 use Rattle.interval_graph.specs.Numbers.{Numbers}
-use Rattle.plan.specs.File.{plan_number}
 use Rattle.plan.specs.AcceptedWindows.{AcceptedWindows}
 use Rattle.tag_bytes.specs.Fields.{within_limit}
 use Rattle.minutes.specs.Tables.{parent_of}
@@ -20,8 +19,7 @@ pub record Numbered (windows plan : ℕ) (components depths ranks : List ℕ) : 
   pub ranks_long : windows ≤ length ranks
   pub fit : (v : ℕ) → v < windows → within_limit (short_numbers_in plan components depths ranks v) ≡ true
 
--- An accepted plan's file, its number, how many windows it has, and the table of their parents.
-pub record Parented (file : List ℕ) (plan windows : ℕ) (parents : List ℕ) : Type 0 where
+-- An accepted plan's file, how many windows it has, and the table of their parents.
+pub record Parented (file : List ℕ) (windows : ℕ) (parents : List ℕ) : Type 0 where
   pub accepted : AcceptedWindows file windows
-  pub number : plan ≡ plan_number file
   pub held : Holds parents (parent_of file) windows

@@ -5,4 +5,4 @@ mod filling;
 mod tagging;
 
 pub use filling::short_tag_file;
-pub use numbering::BuildAnswer;
+pub use numbering::Built;

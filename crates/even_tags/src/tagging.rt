@@ -5,8 +5,9 @@ ghost use Rattle.tag_bytes.specs.Fields.{short_length};
 ghost use Rattle.tag_bytes.specs.TagFile.{short_tag_file};
 ghost use Rattle.even_tags.specs.Tagging.{short_numbers_in, Numbered};
 
-use tag_bytes::ShortTag;
+use tag_bytes::{Label, ShortTag};
 
+// The twin of `tree`'s `write_tags`, which says why there are two.
 pub(crate) fn write_short_tags(
     windows: usize,
     plan: u16,
@@ -19,16 +20,13 @@ pub(crate) fn write_short_tags(
     requires windows_in_bounds { short_length * windows ≤ length tags.old }
     ensures { tags.new ≡ overwritten tags.old (short_tag_file (short_numbers_in plan components.now depths.now ranks.now) windows) }
 {
-    let mut position = 0;
-    while position < windows {
-        let at = ShortTag::LENGTH * position;
-        tag_bytes::short_write(
+    for position in 0..windows {
+        let tag = ShortTag {
             plan,
-            components[position],
-            depths[position],
-            ranks[position],
-            &mut tags[at..],
-        );
-        position += 1;
+            component: components[position],
+            depth: depths[position],
+            rank: ranks[position],
+        };
+        tag.write(&mut tags[ShortTag::LENGTH * position..]).unwrap();
     }
 }

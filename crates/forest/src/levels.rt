@@ -7,7 +7,7 @@ ghost use Rattle.forest.specs.Parents.{parent_in, covered};
 
 use crate::parents::{entries_covered, parent_at};
 
-// Answers with the number of roots, which is that of components.
+/// Answers with the number of roots, which is that of components.
 #[tactic(auto, using(sequences::proofs::Table::by_table, crate::proofs::Leveled::by_level))]
 pub fn fill_levels(
     parents: &[u16],

@@ -1,5 +1,6 @@
 // Passes over a table of parents: components and depths, ranks, and a look-up of one table's entries in another. Every table
-// of parents is taken; no plan is in sight.
+// of parents is taken; no plan is in sight. How many entries to go through is asked beside the tables, and no part of one is cut out: each
+// call is promised for every number, also one past its tables.
 #![tactic(auto)]
 
 mod levels;

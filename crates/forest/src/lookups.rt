@@ -13,7 +13,7 @@ fn entry_at(from: &[u16], at: usize) -> u16
     from.get(at).copied().unwrap_or(0)
 }
 
-// Each place gives way to the entry that it names.
+/// Each place gives way to the entry that it names.
 #[tactic(auto, using(sequences::proofs::Table::by_table))]
 pub fn look_up(from: &[u16], entries: usize, places: &mut [u16])
     ensures { places.new ≡ overwritten places.old (table (looked_up from.now places.old) (min (min entries greatest_count) (length places.old))) }

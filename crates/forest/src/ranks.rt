@@ -33,7 +33,7 @@ fn assign_ranks(parents: &[u16], entries: usize, sizes: &[u16], next: &mut [u16]
     }
 }
 
-// All ranks, by the sizes.
+/// All ranks, by the sizes.
 pub fn fill_ranks(parents: &[u16], entries: usize, ranks: &mut [u16])
     ensures { ranks.new ≡ overwritten ranks.old (table (rank (covered entries (length parents.now) (length ranks.old)) (parent_in parents.now)) (covered entries (length parents.now) (length ranks.old))) }
 {

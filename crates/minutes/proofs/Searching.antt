@@ -8,7 +8,7 @@ use lib.Dec.{ltb}
 use mir.Val.{bool_byte}
 use borrow.Author.Tests.{ltb-true, ltb-false}
 use Rattle.sequences.proofs.Tests.{lt_or_ge}
-use Rattle.minutes.specs.Passes.{FirstPast, fours, Quartered, Sorted, LastBefore}
+use Rattle.minutes.specs.Passes.{fours, Quartered, Sorted, LastBefore}
 
 -- Before `at` no bound lies past the offset.
 pub record NonePast (bounds : ℕ → ℕ) (offset from to at : ℕ) : Type 0 where
@@ -17,9 +17,6 @@ pub record NonePast (bounds : ℕ → ℕ) (offset from to at : ℕ) : Type 0 wh
   pub before : (k : ℕ) → from ≤ k → k < at → bounds k ≤ offset
 
 module _ (bounds : ℕ → ℕ) (offset from to : ℕ) where
-  pub none_past_start : from ≤ to → NonePast bounds offset from to from
-  none_past_start h = record { low = omega arith; high = h; before = λ k l r. absurd (omega arith) }
-
   pub none_past_turn : (at : ℕ) → at < to → bounds at ≤ offset → NonePast bounds offset from to at → NonePast bounds offset from to (at + 1)
   none_past_turn at h here s =
       record {
@@ -27,9 +24,6 @@ module _ (bounds : ℕ → ℕ) (offset from to : ℕ) where
         high = omega arith;
         before = λ k l r. ⊎_elim (λ g. s.before k l g) (λ g. let e : k ≡ at = omega arith in rw e here) (lt_or_ge k at);
       }
-
-  pub none_past_found : (at : ℕ) → (at < to → offset < bounds at) → NonePast bounds offset from to at → FirstPast bounds offset from to at
-  none_past_found at found s = record { low = s.low; high = s.high; past = found; before = s.before }
 
 -- The offset at `low` lies before the bound, unless it is the first, and none from `low + width` on does.
 pub record Bracket (offsets : List ℕ) (bound size low width : ℕ) : Type 0 where
@@ -39,9 +33,6 @@ pub record Bracket (offsets : List ℕ) (bound size low width : ℕ) : Type 0 wh
   pub past : (k : ℕ) → low + width ≤ k → k < size → bound ≤ get_or offsets k 0
 
 module _ (offsets : List ℕ) (bound size : ℕ) where
-  pub bracket_start : 0 < size → Bracket offsets bound size 0 size
-  bracket_start h = record { some = h; stop = omega arith; before = λ l. absurd (omega arith); past = λ k l r. absurd (omega arith) }
-
   module _ (low width half : ℕ) (sorted : Sorted offsets size) (s : Bracket offsets bound size low width) (l : 0 < half) (r : half + half ≤ width) where
     -- Where the middle lies before the bound, the search goes on from it; where it does not, nothing from the middle on does, since
     -- offsets do not fall.
@@ -93,33 +84,11 @@ module _ (offsets : List ℕ) (bound size : ℕ) where
           let half : width - 1 ≡ 1 = omega arith in
           rw half (bracket_found _ _ (omega arith) (bracket_turn low width 1 sorted s (omega arith) (omega arith)))
 
--- What a comparison takes of a half is at most the half.
-pub taken_most : (half : ℕ) (t : Bool) → half * bool_byte t ≤ half
-taken_most half true = omega arith
-taken_most half false = omega arith
-
 -- How many of the next three quarters begin before the bound, as the search counts them.
 abbrev pub quarters_before : List ℕ → (bound low quarter : ℕ) → ℕ
 quarters_before offsets bound low quarter =
     bool_byte (ltb (get_or offsets (low + quarter) 0) bound) + bool_byte (ltb (get_or offsets (low + 2 * quarter) 0) bound)
     + bool_byte (ltb (get_or offsets (low + 3 * quarter) 0) bound)
-
--- What they take of a quarter is at most three of it.
-times_most : (quarter n : ℕ) → n ≤ 3 → quarter * n ≤ 3 * quarter
-times_most quarter zero h = omega arith
-times_most quarter (suc zero) h = omega arith
-times_most quarter (suc (suc zero)) h = omega arith
-times_most quarter (suc (suc (suc zero))) h = omega arith
-times_most quarter (suc (suc (suc (suc n)))) h = absurd (omega arith)
-
-three_most : (a b c : Bool) → bool_byte a + bool_byte b + bool_byte c ≤ 3
-three_most a b c = omega (arith, taken_most 1 a, taken_most 1 b, taken_most 1 c)
-
-pub quarters_most : (offsets : List ℕ) (bound low quarter : ℕ) → (quarters_before offsets bound low quarter ≤ 3)
-    × (quarter * quarters_before offsets bound low quarter ≤ 3 * quarter)
-quarters_most offsets bound low quarter =
-    let most = three_most (ltb (get_or offsets (low + quarter) 0) bound) (ltb (get_or offsets (low + 2 * quarter) 0) bound) (ltb
-    (get_or offsets (low + 3 * quarter) 0) bound) in (most, times_most quarter _ most)
 
 module _ (offsets : List ℕ) (bound size low quarter : ℕ) (sorted : Sorted offsets size) (s : Bracket offsets bound size low (4 * quarter)) where
   some : 0 < quarter

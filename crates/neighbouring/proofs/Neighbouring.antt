@@ -135,10 +135,10 @@ module _ (file : List ℕ) (ok : AcceptedPlan file) (at room : ℕ) where
         sym (plan_passed file _ Err _ ok ∙ rw (lt-ltb at (window_count file) within, le-leb (length (neighbours_of file at)) room fits))
 
 -- What the passes cite.
-pub ruleset counting = (counted_turn, passing_few, neighbours_counted, last_within, few_windows)
+pub ruleset counting = (counted_turn, passing_few, neighbours_counted, last_within)
 
-pub ruleset listing = (counted_turn, passing_few, listed_turn, passing_kept, room_left, overwritten_none, few_windows)
+pub ruleset listing = (counted_turn, listed_turn, passing_kept, room_left, overwritten_none, few_windows)
 
 pub ruleset running = (run_turn, placed_none)
 
-pub ruleset writing = (neighbours_counted, neighbours_written, last_within, few_windows)
+pub ruleset writing = (neighbours_counted, neighbours_written, last_within)

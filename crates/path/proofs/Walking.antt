@@ -4,26 +4,25 @@
 -- Assumes nothing.
 use Prim.Native.Nat.{ℕ, suc, ◌+◌, ◌≤◌, ◌<◌, min, max}
 use mathlib.Core.{Path.◌≡◌, Path.refl, Path.sym, Path.ap, Path.◌∙◌, Logic.⊎_elim, List.List, List.[], List.◌∷◌, List.◌++◌, List.append_assoc}
-use Rattle.std.specs.Prelude.{Some, None, Ok, Err, unwrap_or}
+use Rattle.std.specs.Prelude.{Some, None, Ok, Err}
 use Rattle.std.proofs.lemmas.Grind.{common_steps}
 use native.Mathlib.Omega.{arith}
 use native.Mathlib.Numerals.{add-one}
 use lib.ListN.{length, get_or, set, take, drop, length-append, length-take, drop_of_length-le}
-use borrow.Author.Tests.{eq-eqb, ne_eqb, le-leb, lt-leb}
+use borrow.Author.Tests.{eq-eqb, ne_eqb, lt-leb}
 use Rattle.sequences.specs.Table.{table, overwritten, Holds}
 use Rattle.sequences.proofs.Tests.{lt_or_ge, equal_or_not}
 use Rattle.sequences.proofs.Table.{length_table, length_overwritten, overwritten_table, table_turn}
 use Rattle.sequences.proofs.Appending.{written_more}
-use Rattle.interval_graph.specs.Tree.{parent, ancestor}
+use Rattle.interval_graph.specs.Tree.{ancestor}
 use Rattle.interval_graph.specs.Walk.{climb, walk}
-use Rattle.interval_graph.proofs.Parent.{parent_le, tree}
+use Rattle.interval_graph.proofs.Parent.{tree}
 use Rattle.interval_graph.proofs.Ancestor.{ancestor_zero, ancestor_suc, ancestor_le}
 use Rattle.interval_graph.proofs.ShortestChain.{chain_same, chain_walk, chain_none, chain_symmetric}
 use Rattle.refusals.specs.Question.{refusal_by}
 use Rattle.plan.specs.File.{window_count}
 use Rattle.overlap.specs.Overlap.{overlaps}
 use Rattle.minutes.specs.Tables.{parent_of}
-use Rattle.minutes.specs.Rooted.{above}
 use Rattle.path.specs.Steps.{steps_before, steps_found, walked, chain_rest}
 use Rattle.path.specs.Chain.{chain_between, chain_found, after_chain}
 

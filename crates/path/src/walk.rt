@@ -20,7 +20,7 @@ fn climb_steps(tree: &Rooted, earlier: usize, later: usize) -> Option<usize>
     let end = plan.window(earlier).unwrap().end();
     let mut at = later;
     let mut steps = 0;
-    // A window that shares less than the minimum with the earlier one stands behind its last, and no other does.
+    // A `while`: how many steps there are is what is looked for. A window that shares less than the minimum with the earlier one stands behind its last, and no other does.
     while !overlap::reaches(minimum, end, plan.window(at).unwrap().offset) {
         at = tree.parent(at)?;
         steps += 1;

@@ -8,10 +8,9 @@ use lib.ListN.{length}
 use lib.Dec.{leb}
 use borrow.Author.Tests.{leb-true, eqb-true, le-leb, eq-eqb}
 use Rattle.sequences.proofs.Tests.{and_left, and_right, and_intro}
-use Rattle.refusals.specs.{declared.refusal.Refusal.Refusal, Question.Question, Question.question, Question.each, Question.all_yes}
+use Rattle.refusals.specs.{declared.refusal.Refusal.Refusal, Question.Question, Question.each, Question.all_yes}
 use Rattle.refusals.proofs.Questions.{all_first, first_all, all_member, all_append, append_left, append_right, all_each, each_all}
-use Rattle.std.specs.Prelude.{Result, Ok, Err}
-use Rattle.plan.specs.declared.questions.Accepted.{Accepted}
+use Rattle.std.specs.Prelude.{Err}
 use Rattle.plan.specs.Validation.{accepted_as}
 use Rattle.plan.specs.File.{header_length, file_length, plan_number, window_count, minimum_handover, window_at, end_of}
 use Rattle.plan.specs.Validation.{greatest_count, greatest_minimum, greatest_end, offset_before, window_questions, file_questions}

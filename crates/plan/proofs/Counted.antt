@@ -5,7 +5,7 @@
 use Prim.Native.Nat.{ℕ, ◌+◌, ◌-◌, ◌≤◌, ◌<◌}
 use mathlib.Core.{Path.◌≡◌, Path.sym, Path.◌∙◌, List.List}
 use native.Mathlib.Omega.{arith}
-use Rattle.std.specs.Prelude.{Result, Ok, Err}
+use Rattle.std.specs.Prelude.{Result}
 use Rattle.refusals.specs.declared.refusal.Refusal.{Refusal}
 use Rattle.plan.specs.declared.questions.Accepted.{Accepted}
 use Rattle.plan.specs.Validation.{accepted_as}

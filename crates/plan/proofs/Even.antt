@@ -8,7 +8,7 @@ use native.Mathlib.{Omega.arith, Numerals.add-one}
 use borrow.Author.Tests.{leb-true, le-leb, lt-leb}
 use Rattle.std.specs.Prelude.{Result, Ok, Err}
 use Rattle.refusals.specs.declared.refusal.Refusal.{Refusal}
-use Rattle.refusals.specs.Question.{Question, refusal_by, refusal_about, question, first_no, all_yes, asked_of}
+use Rattle.refusals.specs.Question.{Question, refusal_by, refusal_about, all_yes, asked_of}
 use Rattle.refusals.proofs.Questions.{Asking, asking_start, asking_turn, asking_refused, asking_end, all_member, all_each, each_all}
 use Rattle.plan.specs.declared.windows.Window.{Window}
 use Rattle.plan.specs.File.{window_count, window_at, end_of}

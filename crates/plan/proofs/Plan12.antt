@@ -3,7 +3,7 @@
 use Prim.Native.Nat.{ℕ}
 use mathlib.Core.{Path.◌≡◌, Path.refl, List.List, List.[], List.◌∷◌, List.flat_map}
 use Rattle.wire.specs.LittleEndian.{le16, le32, bytes16, bytes32}
-use Rattle.refusals.specs.Question.{refusal_by, refusal_about, question, about, each, first_no}
+use Rattle.refusals.specs.Question.{refusal_by, refusal_about, each}
 use Rattle.plan.specs.declared.windows.Window.{Window}
 use Rattle.std.specs.Prelude.{Result, Ok, Err}
 use Rattle.refusals.specs.declared.refusal.Refusal.{Refusal}

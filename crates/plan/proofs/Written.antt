@@ -14,7 +14,7 @@ use Rattle.sequences.specs.Table.{table}
 use Rattle.sequences.proofs.{Tests.and_true_right, Table.length_table, FlatMap.flat_map-append, Records.length_records, Records.record_part}
 use Rattle.wire.specs.LittleEndian.{le16, le32, bytes16, bytes32, placed}
 use Rattle.wire.proofs.LittleEndian.{length_placed, placed_behind, placed_short, bytes32_at}
-use Rattle.refusals.specs.Question.{question, about, each, all_yes}
+use Rattle.refusals.specs.Question.{about, each, all_yes}
 use Rattle.refusals.proofs.Questions.{all_append, all_about}
 use Rattle.plan.specs.declared.windows.Window.{Window}
 use Rattle.plan.specs.File.{header_length, window_length, file_length, window_place, plan_number, window_count, minimum_place, minimum_handover}

@@ -11,7 +11,7 @@ use changing::{Change, Edit};
 use packing::pack_build;
 use plan::Window;
 
-// The plan with the window of this offset and so many minutes.
+/// The plan with the window of this offset and so many minutes.
 pub fn poddreshi_add(
     file: &[u8],
     plan: u16,
@@ -35,7 +35,7 @@ pub fn poddreshi_add(
     pack_build(changing::apply(file, change, changed, tags))
 }
 
-// The plan without the window at a position.
+/// The plan without the window at a position.
 pub fn poddreshi_withdraw(
     file: &[u8],
     plan: u16,

@@ -19,14 +19,14 @@ use packing::{
     pack_build, pack_chain, pack_margin, pack_neighbours, pack_reach, pack_same, pack_validation,
 };
 
-// Whether a file is that of an accepted plan.
+/// Whether a file is that of an accepted plan.
 pub fn poddreshi_validate(file: &[u8]) -> u64
     ensures { result ≡ packed_validation (validate_answer_of file.now) }
 {
     pack_validation(plan::validate(file))
 }
 
-// The five tables and the tag file of a plan.
+/// The five tables and the tag file of a plan.
 pub fn poddreshi_build(
     file: &[u8],
     parents: &mut [u16],
@@ -47,7 +47,7 @@ pub fn poddreshi_build(
     pack_build(tree::build(file, parents, components, depths, ranks, last_ranks, tags))
 }
 
-// The tag file of a plan.
+/// The tag file of a plan.
 pub fn poddreshi_tags(file: &[u8], tags: &mut [u8]) -> u64
     ensures value { result ≡ packed_build (tags_answer_of file.now (length tags.old)) }
     ensures tags_after { tags.new ≡ after_tags (tags_answer_of file.now (length tags.old)) (numbers_at file.now) tags.old }
@@ -55,7 +55,7 @@ pub fn poddreshi_tags(file: &[u8], tags: &mut [u8]) -> u64
     pack_build(tree::tag_file(file, tags))
 }
 
-// The file of an even plan's short tags.
+/// The file of an even plan's short tags.
 pub fn poddreshi_short_tags(file: &[u8], tags: &mut [u8]) -> u64
     ensures value { result ≡ packed_build (short_tags_answer_of file.now (length tags.old)) }
     ensures tags_after { tags.new ≡ after_short_tags (short_tags_answer_of file.now (length tags.old)) (numbers_at file.now) tags.old }
@@ -63,14 +63,14 @@ pub fn poddreshi_short_tags(file: &[u8], tags: &mut [u8]) -> u64
     pack_build(even_tags::short_tag_file(file, tags))
 }
 
-// The greatest number of handovers between two windows of a position's component, and the first pair that has it.
+/// The greatest number of handovers between two windows of a position's component, and the first pair that has it.
 pub fn poddreshi_reach(file: &[u8], at: usize) -> u64
     ensures { result ≡ packed_reach (reach_answer_of file.now at) }
 {
     pack_reach(reaching::reach(file, at))
 }
 
-// The shortest chain between two windows that has the earliest window at each step, from the later to the earlier.
+/// The shortest chain between two windows that has the earliest window at each step, from the later to the earlier.
 pub fn poddreshi_chain(file: &[u8], first: usize, second: usize, out: &mut [u16]) -> u64
     ensures value { result ≡ packed_chain (chain_answer_of file.now first second (length out.old)) }
     ensures out_after { out.new ≡ after_chain (chain_answer_of file.now first second (length out.old)) (chain_between file.now first second) out.old }
@@ -78,7 +78,7 @@ pub fn poddreshi_chain(file: &[u8], first: usize, second: usize, out: &mut [u16]
     pack_chain(path::chain(file, first, second, out))
 }
 
-// The positions that overlap one window, rising, without itself.
+/// The positions that overlap one window, rising, without itself.
 pub fn poddreshi_neighbours(file: &[u8], at: usize, out: &mut [u16]) -> u64
     ensures value { result ≡ packed_neighbours (neighbours_answer_of file.now at (length out.old)) }
     ensures out_after { out.new ≡ after_neighbours (neighbours_answer_of file.now at (length out.old)) (neighbours_of file.now at) out.old }
@@ -86,7 +86,7 @@ pub fn poddreshi_neighbours(file: &[u8], at: usize, out: &mut [u16]) -> u64
     pack_neighbours(neighbouring::neighbours(file, at, out))
 }
 
-// The margin of two windows, which may be one: the smaller end less the greater offset.
+/// The margin of two windows, which may be one: the smaller end less the greater offset.
 pub fn poddreshi_margin(file: &[u8], first: usize, second: usize, margin: &mut i64) -> u64
     ensures value { result ≡ packed_margin (margin_answer_of file.now first second) }
     ensures margin_after { margin.new ≡ margin_after (margin_answer_of file.now first second) margin.old }
@@ -100,7 +100,7 @@ pub fn poddreshi_margin(file: &[u8], first: usize, second: usize, margin: &mut i
     }
 }
 
-// Whether two plans are the same.
+/// Whether two plans are the same.
 pub fn poddreshi_same(first: &[u8], second: &[u8]) -> u64
     ensures { result ≡ packed_same (same_answer_of first.now second.now) }
 {

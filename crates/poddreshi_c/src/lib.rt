@@ -18,7 +18,7 @@ ghost use Rattle.reaching.specs.Reach.{reach_answer_of};
 ghost use Rattle.sameness.specs.Sameness.{same_answer_of};
 ghost use Rattle.tree.specs.Build.{after_tags, tags_answer_of};
 
-// The plan with the window of this offset and so many minutes.
+/// The plan with the window of this offset and so many minutes.
 #[unsafe(no_mangle)]
 pub extern "C" fn poddreshi_add(
     file: &[u8],
@@ -35,7 +35,7 @@ pub extern "C" fn poddreshi_add(
     poddreshi::poddreshi_add(file, plan, offset, minutes, changed, tags)
 }
 
-// The plan without the window at a position.
+/// The plan without the window at a position.
 #[unsafe(no_mangle)]
 pub extern "C" fn poddreshi_withdraw(
     file: &[u8],
@@ -51,7 +51,7 @@ pub extern "C" fn poddreshi_withdraw(
     poddreshi::poddreshi_withdraw(file, plan, at, changed, tags)
 }
 
-// Whether a file is that of an accepted plan.
+/// Whether a file is that of an accepted plan.
 #[unsafe(no_mangle)]
 pub extern "C" fn poddreshi_validate(file: &[u8]) -> u64
     ensures { result ≡ packed_validation (validate_answer_of file.now) }
@@ -59,7 +59,7 @@ pub extern "C" fn poddreshi_validate(file: &[u8]) -> u64
     poddreshi::poddreshi_validate(file)
 }
 
-// The five tables and the tag file of a plan.
+/// The five tables and the tag file of a plan.
 #[unsafe(no_mangle)]
 pub extern "C" fn poddreshi_build(
     file: &[u8],
@@ -81,7 +81,7 @@ pub extern "C" fn poddreshi_build(
     poddreshi::poddreshi_build(file, parents, components, depths, ranks, last_ranks, tags)
 }
 
-// The tag file of a plan.
+/// The tag file of a plan.
 #[unsafe(no_mangle)]
 pub extern "C" fn poddreshi_tags(file: &[u8], tags: &mut [u8]) -> u64
     ensures value { result ≡ packed_build (tags_answer_of file.now (length tags.old)) }
@@ -90,7 +90,7 @@ pub extern "C" fn poddreshi_tags(file: &[u8], tags: &mut [u8]) -> u64
     poddreshi::poddreshi_tags(file, tags)
 }
 
-// The file of an even plan's short tags.
+/// The file of an even plan's short tags.
 #[unsafe(no_mangle)]
 pub extern "C" fn poddreshi_short_tags(file: &[u8], tags: &mut [u8]) -> u64
     ensures value { result ≡ packed_build (short_tags_answer_of file.now (length tags.old)) }
@@ -99,7 +99,7 @@ pub extern "C" fn poddreshi_short_tags(file: &[u8], tags: &mut [u8]) -> u64
     poddreshi::poddreshi_short_tags(file, tags)
 }
 
-// The greatest number of handovers between two windows of a position's component, and the first pair that has it.
+/// The greatest number of handovers between two windows of a position's component, and the first pair that has it.
 #[unsafe(no_mangle)]
 pub extern "C" fn poddreshi_reach(file: &[u8], at: usize) -> u64
     ensures { result ≡ packed_reach (reach_answer_of file.now at) }
@@ -107,7 +107,7 @@ pub extern "C" fn poddreshi_reach(file: &[u8], at: usize) -> u64
     poddreshi::poddreshi_reach(file, at)
 }
 
-// The shortest chain between two windows that has the earliest window at each step, from the later to the earlier.
+/// The shortest chain between two windows that has the earliest window at each step, from the later to the earlier.
 #[unsafe(no_mangle)]
 pub extern "C" fn poddreshi_chain(file: &[u8], first: usize, second: usize, out: &mut [u16]) -> u64
     ensures value { result ≡ packed_chain (chain_answer_of file.now first second (length out.old)) }
@@ -116,7 +116,7 @@ pub extern "C" fn poddreshi_chain(file: &[u8], first: usize, second: usize, out:
     poddreshi::poddreshi_chain(file, first, second, out)
 }
 
-// The positions that overlap one window, rising, without itself.
+/// The positions that overlap one window, rising, without itself.
 #[unsafe(no_mangle)]
 pub extern "C" fn poddreshi_neighbours(file: &[u8], at: usize, out: &mut [u16]) -> u64
     ensures value { result ≡ packed_neighbours (neighbours_answer_of file.now at (length out.old)) }
@@ -125,7 +125,7 @@ pub extern "C" fn poddreshi_neighbours(file: &[u8], at: usize, out: &mut [u16]) 
     poddreshi::poddreshi_neighbours(file, at, out)
 }
 
-// The margin of two windows, which may be one: the smaller end less the greater offset.
+/// The margin of two windows, which may be one: the smaller end less the greater offset.
 #[unsafe(no_mangle)]
 pub extern "C" fn poddreshi_margin(
     file: &[u8],
@@ -139,7 +139,7 @@ pub extern "C" fn poddreshi_margin(
     poddreshi::poddreshi_margin(file, first, second, margin)
 }
 
-// Whether two plans are the same.
+/// Whether two plans are the same.
 #[unsafe(no_mangle)]
 pub extern "C" fn poddreshi_same(first: &[u8], second: &[u8]) -> u64
     ensures { result ≡ packed_same (same_answer_of first.now second.now) }

@@ -8,7 +8,7 @@ use crate::tags::poddreshi_pair_at;
 use packing::{Done, Packed};
 use page::Record;
 
-// A record of a page as C has it: two positions, and the place for their answer as one number. What stands there before is not read.
+/// A record of a page as C has it: two positions, and the place for their answer as one number. What stands there before is not read.
 #[repr(C)]
 #[derive(Clone, Copy, Debug, PartialEq, Eq)]
 pub struct PackedQuery {

@@ -10,7 +10,7 @@ ghost use Rattle.poddreshi_reader.specs.Lent.{offset_after};
 use packing::{Done, Packed};
 use tag::{Label, ShortTag, Tag};
 
-// The answer from the bytes of two tags.
+/// The answer from the bytes of two tags.
 pub fn poddreshi_pair(first: &[u8], second: &[u8]) -> u64
     ensures { result ≡ packed_pair (pair_answer_of first.now second.now) }
 {
@@ -32,8 +32,8 @@ pub fn poddreshi_pair_at(tags: &[u8], first: usize, second: usize) -> u64
     }
 }
 
-// Where in a tag file the tag at a position begins. `tag::lookup` hands back the part that begins there; a part does not
-// cross into C.
+/// Where in a tag file the tag at a position begins. `tag::lookup` hands back the part that begins there; a part does not
+/// cross into C.
 pub fn poddreshi_lookup(tags: &[u8], at: usize, offset: &mut usize) -> u64
     ensures value { result ≡ packed_lookup (lookup_answer_of tags.now at) }
     ensures offset_after { offset.new ≡ offset_after (lookup_answer_of tags.now at) at offset.old }
@@ -45,7 +45,7 @@ pub fn poddreshi_lookup(tags: &[u8], at: usize, offset: &mut usize) -> u64
     answer.map(|()| Done::Found).pack()
 }
 
-// Fills the first ten bytes of `out` with a tag.
+/// Fills the first ten bytes of `out` with a tag.
 pub fn poddreshi_write(
     plan: u16,
     component: u16,
@@ -67,21 +67,21 @@ pub fn poddreshi_write(
     tag.write(out).map(|()| Done::Written).pack()
 }
 
-// The answer from the bytes of two short tags.
+/// The answer from the bytes of two short tags.
 pub fn poddreshi_short_pair(first: &[u8], second: &[u8]) -> u64
     ensures { result ≡ packed_pair (short_pair_answer_of first.now second.now) }
 {
     short_tag::short_pair(first, second).pack()
 }
 
-// The answer from the short tags at two positions of a file of them.
+/// The answer from the short tags at two positions of a file of them.
 pub fn poddreshi_short_pair_at(tags: &[u8], first: usize, second: usize) -> u64
     ensures { result ≡ packed_pair (short_pair_at_answer_of tags.now first second) }
 {
     short_tag::short_pair_at(tags, first, second).pack()
 }
 
-// Fills the first eight bytes of `out` with a short tag.
+/// Fills the first eight bytes of `out` with a short tag.
 pub fn poddreshi_short_write(
     plan: u16,
     component: u16,

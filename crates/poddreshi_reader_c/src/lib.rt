@@ -13,7 +13,7 @@ ghost use Rattle.tag_bytes.specs.Writing.{after_short_write, after_write, short_
 
 use poddreshi_reader::PackedQuery;
 
-// Fills every record of a page with the answer for its two positions.
+/// Fills every record of a page with the answer for its two positions.
 #[unsafe(no_mangle)]
 pub extern "C" fn poddreshi_page(tags: &[u8], queries: &mut [PackedQuery]) -> u64
     ensures value { result ≡ packed_page (page_answer_of tags.now) }
@@ -22,7 +22,7 @@ pub extern "C" fn poddreshi_page(tags: &[u8], queries: &mut [PackedQuery]) -> u6
     poddreshi_reader::poddreshi_page(tags, queries)
 }
 
-// The answer from the bytes of two tags.
+/// The answer from the bytes of two tags.
 #[unsafe(no_mangle)]
 pub extern "C" fn poddreshi_pair(first: &[u8], second: &[u8]) -> u64
     ensures { result ≡ packed_pair (pair_answer_of first.now second.now) }
@@ -30,7 +30,7 @@ pub extern "C" fn poddreshi_pair(first: &[u8], second: &[u8]) -> u64
     poddreshi_reader::poddreshi_pair(first, second)
 }
 
-// The answer from the tags at two positions of a tag file.
+/// The answer from the tags at two positions of a tag file.
 #[unsafe(no_mangle)]
 pub extern "C" fn poddreshi_pair_at(tags: &[u8], first: usize, second: usize) -> u64
     ensures { result ≡ packed_pair (pair_at_answer_of tags.now first second) }
@@ -38,7 +38,7 @@ pub extern "C" fn poddreshi_pair_at(tags: &[u8], first: usize, second: usize) ->
     poddreshi_reader::poddreshi_pair_at(tags, first, second)
 }
 
-// Where in a tag file the tag at a position begins.
+/// Where in a tag file the tag at a position begins.
 #[unsafe(no_mangle)]
 pub extern "C" fn poddreshi_lookup(tags: &[u8], at: usize, offset: &mut usize) -> u64
     ensures value { result ≡ packed_lookup (lookup_answer_of tags.now at) }
@@ -47,7 +47,7 @@ pub extern "C" fn poddreshi_lookup(tags: &[u8], at: usize, offset: &mut usize) -
     poddreshi_reader::poddreshi_lookup(tags, at, offset)
 }
 
-// Fills the first ten bytes of `out` with a tag.
+/// Fills the first ten bytes of `out` with a tag.
 #[unsafe(no_mangle)]
 pub extern "C" fn poddreshi_write(
     plan: u16,
@@ -63,7 +63,7 @@ pub extern "C" fn poddreshi_write(
     poddreshi_reader::poddreshi_write(plan, component, depth, rank, last, out)
 }
 
-// The answer from the bytes of two short tags.
+/// The answer from the bytes of two short tags.
 #[unsafe(no_mangle)]
 pub extern "C" fn poddreshi_short_pair(first: &[u8], second: &[u8]) -> u64
     ensures { result ≡ packed_pair (short_pair_answer_of first.now second.now) }
@@ -71,7 +71,7 @@ pub extern "C" fn poddreshi_short_pair(first: &[u8], second: &[u8]) -> u64
     poddreshi_reader::poddreshi_short_pair(first, second)
 }
 
-// The answer from the short tags at two positions of a file of them.
+/// The answer from the short tags at two positions of a file of them.
 #[unsafe(no_mangle)]
 pub extern "C" fn poddreshi_short_pair_at(tags: &[u8], first: usize, second: usize) -> u64
     ensures { result ≡ packed_pair (short_pair_at_answer_of tags.now first second) }
@@ -79,7 +79,7 @@ pub extern "C" fn poddreshi_short_pair_at(tags: &[u8], first: usize, second: usi
     poddreshi_reader::poddreshi_short_pair_at(tags, first, second)
 }
 
-// Fills the first eight bytes of `out` with a short tag.
+/// Fills the first eight bytes of `out` with a short tag.
 #[unsafe(no_mangle)]
 pub extern "C" fn poddreshi_short_write(
     plan: u16,

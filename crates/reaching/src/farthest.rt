@@ -42,7 +42,7 @@ fn farthest(file: &[u8], windows: usize, parents: &[u16], at: usize) -> ReachAns
     }
 }
 
-// The greatest number of handovers between two windows of a position's component, and the first pair that has it.
+/// The greatest number of handovers between two windows of a position's component, and the first pair that has it.
 pub fn reach(file: &[u8], at: usize) -> ReachAnswer
     ensures { result ≡ reach_answer_of file.now at }
 {

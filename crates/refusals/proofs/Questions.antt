@@ -11,8 +11,8 @@ use borrow.Author.Tests.{ltb-true, lt-ltb, le-ltb}
 use Rattle.sequences.proofs.Tests.{truth, and_left, and_right, and_intro, lt_or_ge}
 use Rattle.refusals.specs.declared.refusal.Refusal.{Refusal}
 use Rattle.std.specs.Prelude.{Result, Ok, Err, cond}
-use Rattle.refusals.specs.Question.{Question, refusal_by, refusal_from, refusal_about, question, from, about, each, first_no, all_yes}
-use Rattle.refusals.specs.Question.{asked_of, position_question, position_questions}
+use Rattle.refusals.specs.Question.{Question, refusal_by, refusal_from, refusal_about, from, about, each, first_no, all_yes}
+use Rattle.refusals.specs.Question.{asked_of, position_questions}
 
 module _ {A : Type 0} (later : List Question) (refused : Refusal → A) (accepted : A) where
   -- A question that is answered "yes" is passed over.

@@ -3,8 +3,8 @@
 use mathlib.Core.{Path.◌≡◌, Path.refl, List.[], List.◌∷◌}
 use lib.Dec.{ltb}
 use Rattle.std.specs.Prelude.{Ok, Err}
-use Rattle.refusals.specs.Question.{refusal_by, refusal_from, refusal_about, question, from, about, each, first_no, all_yes, asked_of}
-use Rattle.refusals.specs.Question.{position_question, position_questions, room_question}
+use Rattle.refusals.specs.Question.{refusal_by, refusal_from, refusal_about, question, each, asked_of}
+use Rattle.refusals.specs.Question.{position_questions, room_question}
 
 -- What a computation on questions opens.
 unfoldable turns : Unit {0}

@@ -5,7 +5,8 @@ ghost use Rattle.refusals.specs.Question.{refusal_by, refusal_from, refusal_abou
 use std::error::Error;
 use std::fmt;
 
-/// The question's number, which input is at fault (0 the first, 1 the second), and the position of the window being read, or 0.
+/// A "no" to a question: its number, which input is at fault (0 the first, 1 the second), and the position of the window being read, or 0.
+// The number is no `Question`: `by` is promised for every number, and 0 stands for no refusal where `Tag::refusal` has none to give.
 #[derive(Clone, Copy, Debug, PartialEq, Eq)]
 pub struct Refusal {
     pub number: u8,

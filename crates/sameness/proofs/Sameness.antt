@@ -1,7 +1,7 @@
 -- Two plans are the same exactly if they have equal n and every window's last is the same; and exactly if they have equal n and
 -- every window's component, depth, rank and rank of the last are the same: "equal tags apart from the plan number say just
 -- that".
--- Vocabulary: pairs_iff_overlaps, lasts_pairs, same_iff_numbers; table_refused, table_counts, from_refused, from_passed, take_lasts, same_tables.
+-- Vocabulary: pairs_iff_overlaps, lasts_pairs, same_iff_numbers, compared; table_refused, table_counts, from_refused, from_passed, take_lasts, same_tables.
 -- Assumes nothing.
 use Prim.Native.Nat.{ℕ, ◌≤◌}
 use mathlib.Core.{Bool.Bool, Bool.true, Bool.false, Bool.beq, Bool.◌&&◌, Path.◌≡◌, Path.refl, Path.sym, Path.ap, Path.◌∙◌, Logic.◌↔◌, Logic.⊎_elim}
@@ -24,16 +24,16 @@ use Rattle.interval_graph.specs.Tree.{last}
 use Rattle.interval_graph.proofs.Sameness.{SameOverlaps, SameNumbers, last_same, lasts_overlaps, overlaps_numbers, numbers_overlaps}
 use Rattle.refusals.specs.declared.refusal.Refusal.{Refusal}
 use Rattle.refusals.specs.Question.{Question, refusal_from, from, asked_of}
-use Rattle.refusals.proofs.Questions.{first_from, first_cases, asked_first, after_refused, asked_yes, yes_asked}
+use Rattle.refusals.proofs.Questions.{first_from, first_cases, asked_first, after_refused, all_passed, asked_yes, yes_asked}
 use Rattle.plan.specs.File.{window_count}
 use Rattle.overlap.specs.Overlap.{overlaps}
 use Rattle.plan.specs.Validation.{AcceptedPlan, greatest_count, plan_questions}
-use Rattle.plan.proofs.Acceptance.{few_windows}
+use Rattle.plan.proofs.{Acceptance.few_windows, Calls.plan_passed}
 use Rattle.overlap.proofs.InOrder.{interval_order}
 use Rattle.minutes.specs.Tables.{last_of}
 use Rattle.minutes.specs.SingleTable.{table_questions, table_answer_of}
 use Rattle.minutes.proofs.SingleTabled.{table_filled, table_fills}
-use Rattle.sameness.specs.Sameness.{same_pairs, same_overlap}
+use Rattle.sameness.specs.Sameness.{same_pairs, same_overlap, same_questions, same_answer_of}
 
 beq_equal : (s t : Bool) → beq s t ≡ true → s ≡ t
 beq_equal true true e = refl
@@ -111,6 +111,13 @@ module _ (qs : List Question) where
 
   pub from_passed : asked_of qs ≡ Ok tt → asked_of (from 1 qs) ≡ Ok tt
   from_passed e = first_from 1 qs Err (Ok tt) ∙ asked_first qs (λ s. Err (refusal_from 1 s)) (Ok tt) ∙ rw e
+
+-- Of two accepted plans the test decides.
+pub compared : (first second : List ℕ) → AcceptedPlan first → AcceptedPlan second → same_answer_of first second ≡ Ok (same_overlap first second)
+unfolding same_answer_of same_questions
+compared first second ok ok' =
+    plan_passed first _ Err _ ok
+    ∙ all_passed (from 1 (plan_questions second)) Err _ (from_passed (plan_questions second) (yes_asked (plan_questions second) ok'))
 
 -- What is written of the lasts.
 pub take_lasts : (f : ℕ → ℕ) (n : ℕ) (before : List ℕ) → take n (overwritten before (table f n)) ≡ table f n

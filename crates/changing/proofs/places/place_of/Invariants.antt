@@ -1,9 +1,7 @@
-use Prim.Native.Nat.{◌-◌}
-use Rattle.changing.proofs.Placed.{Counted}
+use Rattle.std.proofs.Common.{◌≡◌}
+use Rattle.plan.specs.Plan.{bytes_of}
+use Rattle.changing.specs.Steps.{place_of}
 use Rattle.changing.proofs.places.place_of.Given as goal
 
 abbrev pub invariant-loop-position : goal.invariant-loop-position
-invariant-loop-position l = Counted l.file l.windows l.offset l.place l.position
-
-abbrev pub decreases-loop-position : goal.decreases-loop-position
-decreases-loop-position l = l.windows - l.position
+invariant-loop-position l = l.place ≡ place_of (bytes_of l.plan) l.position l.offset
