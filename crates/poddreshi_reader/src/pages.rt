@@ -29,7 +29,7 @@ impl Record for PackedQuery {
     }
 }
 
-// Fills every record of a page.
+/// Fills every record of a page.
 #[tactic(auto, unfolding(crate::specs::Pages::after_packed_page))]
 pub fn poddreshi_page(tags: &[u8], queries: &mut [PackedQuery]) -> u64
     ensures value { result ≡ packed_page (page_answer_of tags.now) }
