@@ -1,145 +1,125 @@
-// Each answer as one number of 64 bits: four fields of 16 bits, the kind lowest.
-ghost use Rattle.std.specs.Prelude.{◌≡◌};
-ghost use Rattle.packing.specs.Packing.{packed, packed_refusal, packed_validation, packed_build, packed_reach, packed_chain, packed_neighbours, packed_same, packed_pair, packed_lookup, packed_write, packed_page, packed_margin};
+// The answers of the calls, where nothing is refused. One that is a number, a test or nothing in the call itself has a type here that says
+// what it is of: its kind.
+use crate::kind::Kind;
+use crate::packed::Packed;
+use numbering::Built;
+use plan::Accepted;
+use reaching::Reach;
+use tag::PairAnswer;
 
-use neighbouring::NeighboursAnswer;
-use overlap::MarginAnswer;
-use page::PageAnswer;
-use path::ChainAnswer;
-use plan::Validation;
-use reaching::ReachAnswer;
-use refusals::Refusal;
-use sameness::SameAnswer;
-use tag::{LookupAnswer, PairAnswer, WriteAnswer};
-use tree::BuildAnswer;
+/// The number of entries of a chain, if there is one.
+#[derive(Clone, Copy, Debug, PartialEq, Eq)]
+pub struct Chain(pub Option<u16>);
 
-fn pack(kind: u16, first: u16, second: u16, third: u16) -> u64
-    ensures { result ≡ packed kind first second third }
-{
-    kind as u64
-        + 65536 * (first as u64)
-        + 4294967296 * (second as u64)
-        + 281474976710656 * (third as u64)
+/// How many windows overlap one.
+#[derive(Clone, Copy, Debug, PartialEq, Eq)]
+pub struct Neighbours(pub u16);
+
+/// Whether two plans are the same.
+#[derive(Clone, Copy, Debug, PartialEq, Eq)]
+pub struct Sameness(pub bool);
+
+/// What was done by a call that answers by no number of its own. The margin, a signed number, is handed on beside the answer.
+#[derive(Clone, Copy, Debug, PartialEq, Eq)]
+pub enum Done {
+    Found,
+    Written,
+    Filled,
+    Measured,
 }
 
-fn pack_refusal(refusal: Refusal) -> u64
-    ensures { result ≡ packed_refusal refusal }
-{
-    pack(
-        0,
-        refusal.number as u16,
-        refusal.input as u16,
-        refusal.position,
-    )
-}
+impl Packed for Accepted {
+    ghost use Rattle.packing.specs.Packing.{packed_accepted};
 
-pub fn pack_validation(answer: Validation) -> u64
-    ensures { result ≡ packed_validation answer }
-{
-    match answer {
-        Validation::Accepted { plan, windows } => pack(1, plan, windows, 0),
-        Validation::Refused(refusal) => pack_refusal(refusal),
+    ghost packed = { packed_accepted };
+
+    fn pack(self) -> u64 {
+        Kind::Accepted.with(self.plan, self.windows, 0)
     }
 }
 
-pub fn pack_build(answer: BuildAnswer) -> u64
-    ensures { result ≡ packed_build answer }
-{
-    match answer {
-        BuildAnswer::Built {
-            plan,
-            windows,
-            components,
-        } => pack(2, plan, windows, components),
-        BuildAnswer::Refused(refusal) => pack_refusal(refusal),
+impl Packed for Built {
+    ghost use Rattle.packing.specs.Packing.{packed_built};
+
+    ghost packed = { packed_built };
+
+    fn pack(self) -> u64 {
+        Kind::Built.with(self.plan, self.windows, self.components)
     }
 }
 
-pub fn pack_reach(answer: ReachAnswer) -> u64
-    ensures { result ≡ packed_reach answer }
-{
-    match answer {
-        ReachAnswer::Reach {
-            handovers,
-            smaller,
-            larger,
-        } => pack(3, handovers, smaller, larger),
-        ReachAnswer::Refused(refusal) => pack_refusal(refusal),
+impl Packed for Reach {
+    ghost use Rattle.packing.specs.Packing.{packed_farthest};
+
+    ghost packed = { packed_farthest };
+
+    fn pack(self) -> u64 {
+        Kind::Reach.with(self.handovers, self.smaller, self.larger)
     }
 }
 
-pub fn pack_chain(answer: ChainAnswer) -> u64
-    ensures { result ≡ packed_chain answer }
-{
-    match answer {
-        ChainAnswer::Chain { entries } => pack(4, entries, 0, 0),
-        ChainAnswer::NoChain => pack(5, 0, 0, 0),
-        ChainAnswer::Refused(refusal) => pack_refusal(refusal),
+impl Packed for Chain {
+    ghost use Rattle.packing.specs.Packing.{packed_way};
+
+    ghost packed = { λ chain. packed_way chain.0 };
+
+    fn pack(self) -> u64 {
+        match self.0 {
+            Some(entries) => Kind::Chain.with(entries, 0, 0),
+            None => Kind::NoChain.alone(),
+        }
     }
 }
 
-pub fn pack_neighbours(answer: NeighboursAnswer) -> u64
-    ensures { result ≡ packed_neighbours answer }
-{
-    match answer {
-        NeighboursAnswer::Neighbours(count) => pack(6, count, 0, 0),
-        NeighboursAnswer::Refused(refusal) => pack_refusal(refusal),
+impl Packed for Neighbours {
+    ghost use Rattle.packing.specs.Packing.{packed_count};
+
+    ghost packed = { λ neighbours. packed_count neighbours.0 };
+
+    fn pack(self) -> u64 {
+        Kind::Neighbours.with(self.0, 0, 0)
     }
 }
 
-pub fn pack_same(answer: SameAnswer) -> u64
-    ensures { result ≡ packed_same answer }
-{
-    match answer {
-        SameAnswer::Same => pack(7, 0, 0, 0),
-        SameAnswer::Different => pack(8, 0, 0, 0),
-        SameAnswer::Refused(refusal) => pack_refusal(refusal),
+impl Packed for Sameness {
+    ghost use Rattle.packing.specs.Packing.{packed_test};
+
+    ghost packed = { λ sameness. packed_test sameness.0 };
+
+    fn pack(self) -> u64 {
+        if self.0 {
+            Kind::Same.alone()
+        } else {
+            Kind::Different.alone()
+        }
     }
 }
 
-pub fn pack_pair(answer: PairAnswer) -> u64
-    ensures { result ≡ packed_pair answer }
-{
-    match answer {
-        PairAnswer::Handovers(count) => pack(9, count, 0, 0),
-        PairAnswer::NoChain => pack(5, 0, 0, 0),
-        PairAnswer::Refused(refusal) => pack_refusal(refusal),
+impl Packed for PairAnswer {
+    ghost use Rattle.packing.specs.Packing.{packed_pair};
+
+    ghost packed = { packed_pair };
+
+    fn pack(self) -> u64 {
+        match self {
+            PairAnswer::Handovers(count) => Kind::Handovers.with(count, 0, 0),
+            PairAnswer::NoChain => Kind::NoChain.alone(),
+            PairAnswer::Refused(refusal) => refusal.pack(),
+        }
     }
 }
 
-pub fn pack_lookup(answer: LookupAnswer) -> u64
-    ensures { result ≡ packed_lookup answer }
-{
-    match answer {
-        LookupAnswer::Found => pack(10, 0, 0, 0),
-        LookupAnswer::Refused(refusal) => pack_refusal(refusal),
-    }
-}
+impl Packed for Done {
+    ghost use Rattle.packing.specs.Packing.{packed_done};
 
-pub fn pack_write(answer: WriteAnswer) -> u64
-    ensures { result ≡ packed_write answer }
-{
-    match answer {
-        WriteAnswer::Written => pack(11, 0, 0, 0),
-        WriteAnswer::Refused(refusal) => pack_refusal(refusal),
-    }
-}
+    ghost packed = { packed_done };
 
-pub fn pack_page(answer: PageAnswer) -> u64
-    ensures { result ≡ packed_page answer }
-{
-    match answer {
-        PageAnswer::Filled => pack(12, 0, 0, 0),
-        PageAnswer::Refused(refusal) => pack_refusal(refusal),
-    }
-}
-
-/// The margin itself, a signed number, is handed on beside the answer.
-pub fn pack_margin(answer: MarginAnswer) -> u64
-    ensures { result ≡ packed_margin answer }
-{
-    match answer {
-        MarginAnswer::Margin(_) => pack(13, 0, 0, 0),
-        MarginAnswer::Refused(refusal) => pack_refusal(refusal),
+    fn pack(self) -> u64 {
+        match self {
+            Done::Found => Kind::Found.alone(),
+            Done::Written => Kind::Written.alone(),
+            Done::Filled => Kind::Filled.alone(),
+            Done::Measured => Kind::Margin.alone(),
+        }
     }
 }

@@ -2,8 +2,8 @@
 #![tactic(auto)]
 
 mod answers;
+mod kind;
+mod packed;
 
-pub use answers::{
-    pack_build, pack_chain, pack_lookup, pack_margin, pack_neighbours, pack_page, pack_pair,
-    pack_reach, pack_same, pack_validation, pack_write,
-};
+pub use answers::{Chain, Done, Neighbours, Sameness};
+pub use packed::Packed;

@@ -6,7 +6,6 @@ use mathlib.Core.{Path.◌≡◌, Path.refl, List.[], List.◌∷◌}
 use Rattle.tag_bytes.proofs.Plan12.{tags}
 use Rattle.page.specs.Page.{page_answer_of}
 use Rattle.page.proofs.Plan12 as page
-use Rattle.packing.specs.Packing.{packed_pair}
 use Rattle.poddreshi_reader.specs.declared.pages.PackedQuery.{PackedQuery}
 use Rattle.poddreshi_reader.specs.Pages.{packed_with, packed_filled, after_packed_page}
 
@@ -16,7 +15,7 @@ query first second answer = record { first = first; second = second; answer = an
 
 pub plan_12_page : after_packed_page (page_answer_of tags) tags (query 0 5 77 ∷ query 7 8 78 ∷ query 5 6 79 ∷ query 0 7 80 ∷ [])
     ≡ query 0 5 196617 ∷ query 7 8 458752 ∷ query 5 6 5 ∷ query 0 7 4295426048 ∷ []
-unfolding page.meaning tags query packed_pair packed_with packed_filled after_packed_page
+unfolding page.meaning tags query packed_with packed_filled after_packed_page
 plan_12_page = refl
 
 -- One byte is no tag file, and the page stays as it was.

@@ -1,6 +1,6 @@
 -- Laws of the number by which the code compares two tags: it holds their depths, ranks and lasts, the lesser is that of the tag that comes
 -- first, and the rule is a sum over three comparisons.
--- Vocabulary: sum_rule, between_*, *_back, lesser_first, greater_second, counted, level_*, bare_*, in_either_order, short_in_either_order, compared_ordered.
+-- Vocabulary: sum_rule, between_*, *_back, lesser_first, greater_second, level_between, in_either_order, compared_ordered.
 -- Assumes nothing.
 use Prim.Native.Nat.{ℕ, ◌+◌, ◌-◌, ◌/◌, ◌%◌, ◌≤◌, ◌<◌, min, max}
 use mathlib.Core.{Bool.Bool, Bool.true, Bool.false, Bool.cond, Bool.◌&&◌, Bool.◌||◌, Path.◌≡◌, Path.refl, Logic.◌⊎◌, Logic.⊎_elim}
@@ -9,7 +9,7 @@ use Rattle.std.proofs.lemmas.Grind.{common_steps}
 use lib.Dec.{ltb, leb}
 use mir.Val.{bool_byte}
 use Rattle.sequences.proofs.Tests.{byte_most, lt_or_ge}
-use Rattle.interval_graph.specs.Numbers.{Numbers, comes_first, between, short_between}
+use Rattle.interval_graph.specs.Numbers.{Numbers, comes_first, between}
 use Rattle.tag_bytes.proofs.Fields.{Within}
 use Rattle.tag.specs.declared.pairs.PairAnswer.TheVariants.{Handovers}
 use Rattle.tag.specs.Pairing.{compared_of}
@@ -57,57 +57,33 @@ either : (b : Bool) (x y : ℕ) → x ≡ y → x ≡ cond b x y
 either true x y e = refl
 either false x y e = e
 
--- By a rule that does not count with plan and component, and for which two tags of one place may be turned round.
-module _ (rule : Numbers → Numbers → ℕ)
-    (bare : (u v : Numbers) → rule (record { plan = 0; component = 0; depth = u.depth; rank = u.rank; last = u.last })
-    (record { plan = 0; component = 0; depth = v.depth; rank = v.rank; last = v.last }) ≡ rule u v)
-    (level : (u v : Numbers) → u.depth ≡ v.depth → u.rank ≡ v.rank → rule u v ≡ rule v u)
-  where
-    rule_back : (a b : Numbers) → a.rank < 65536 → a.last < 65536 → b.rank < 65536 → b.last < 65536 → rule (in_order (order_of a)) (in_order (order_of b)) ≡ rule a b
-    rule_back a b ar al br bl =
-        rw (depth_back a ar al, rank_back a ar al, last_back a al, depth_back b br bl, rank_back b br bl, last_back b bl) (bare a b)
-
-    counted : (a b : Numbers) → a.rank < 65536 → a.last < 65536 → b.rank < 65536 → b.last < 65536 →
-        rule (in_order (min (order_of a) (order_of b))) (in_order (max (order_of a) (order_of b))) ≡ cond (comes_first a b) (rule a b) (rule b a)
-    counted a b ar al br bl =
-        ⊎_elim
-        (λ less.
-        let low : min (order_of a) (order_of b) ≡ order_of a = omega (arith, less) in
-        let high : max (order_of a) (order_of b) ≡ order_of b = omega (arith, less) in
-        rw (low, high, rule_back a b ar al br bl)
-        (⊎_elim (λ f. rw f) (λ same. either (comes_first a b) (rule a b) (rule b a) (level a b same.0 same.1)) (lesser_first a b ar al br bl less)))
-        (λ less.
-        let low : min (order_of a) (order_of b) ≡ order_of b = omega (arith, less) in
-        let high : max (order_of a) (order_of b) ≡ order_of a = omega (arith, less) in
-        rw (low, high, rule_back b a br bl ar al, greater_second a b ar al br bl less))
-        (lt_or_ge (order_of a) (order_of b))
-
+-- Two tags of one place may be turned round.
 level_between : (u v : Numbers) → u.depth ≡ v.depth → u.rank ≡ v.rank → between u v ≡ between v u
 unfolding between
 level_between u v d r = grind (arith, common_steps)
 
-level_short : (u v : Numbers) → u.depth ≡ v.depth → u.rank ≡ v.rank → short_between u v ≡ short_between v u
-unfolding short_between
-level_short u v d r = grind (arith, common_steps)
-
-bare_between : (u v : Numbers) → between (record { plan = 0; component = 0; depth = u.depth; rank = u.rank; last = u.last })
-    (record { plan = 0; component = 0; depth = v.depth; rank = v.rank; last = v.last }) ≡ between u v
+-- The rule does not count with plan and component.
+between_back : (a b : Numbers) → a.rank < 65536 → a.last < 65536 → b.rank < 65536 → b.last < 65536 →
+    between (in_order (order_of a)) (in_order (order_of b)) ≡ between a b
 unfolding between
-bare_between u v = refl
+between_back a b ar al br bl =
+    rw (depth_back a ar al, rank_back a ar al, last_back a al, depth_back b br bl, rank_back b br bl)
 
 pub in_either_order : (a b : Numbers) → a.rank < 65536 → a.last < 65536 → b.rank < 65536 → b.last < 65536 →
     between (in_order (min (order_of a) (order_of b))) (in_order (max (order_of a) (order_of b))) ≡ cond (comes_first a b) (between a b) (between b a)
-in_either_order = counted between bare_between level_between
-
-bare_short : (u v : Numbers) → short_between (record { plan = 0; component = 0; depth = u.depth; rank = u.rank; last = u.last })
-    (record { plan = 0; component = 0; depth = v.depth; rank = v.rank; last = v.last }) ≡ short_between u v
-unfolding short_between
-bare_short u v = refl
-
-pub short_in_either_order : (a b : Numbers) → a.rank < 65536 → a.last < 65536 → b.rank < 65536 → b.last < 65536 →
-    short_between (in_order (min (order_of a) (order_of b))) (in_order (max (order_of a) (order_of b)))
-    ≡ cond (comes_first a b) (short_between a b) (short_between b a)
-short_in_either_order = counted short_between bare_short level_short
+in_either_order a b ar al br bl =
+    ⊎_elim
+    (λ less.
+    let low : min (order_of a) (order_of b) ≡ order_of a = omega (arith, less) in
+    let high : max (order_of a) (order_of b) ≡ order_of b = omega (arith, less) in
+    rw (low, high, between_back a b ar al br bl)
+    (⊎_elim (λ f. rw f) (λ same. either (comes_first a b) (between a b) (between b a) (level_between a b same.0 same.1))
+    (lesser_first a b ar al br bl less)))
+    (λ less.
+    let low : min (order_of a) (order_of b) ≡ order_of b = omega (arith, less) in
+    let high : max (order_of a) (order_of b) ≡ order_of a = omega (arith, less) in
+    rw (low, high, between_back b a br bl ar al, greater_second a b ar al br bl less))
+    (lt_or_ge (order_of a) (order_of b))
 
 -- What the rule counts with the lesser number in front.
 pub compared_ordered : (a b : Numbers) → Within a → Within b → a.plan ≡ b.plan → a.component ≡ b.component → (a.rank ≡ b.rank → ⊥) →

@@ -20,7 +20,7 @@ pub trait Ruled: Label {
 }
 
 // A tag's depth, rank and rank of the last as one number. Of two tags of one component, that with the smaller number comes first.
-pub(crate) fn order(tag: Tag) -> u64
+fn order(tag: Tag) -> u64
     ensures { result ≡ order_of (numbers tag) }
 {
     4294967296 * u64::from(tag.depth) + 65536 * u64::from(tag.rank) + u64::from(tag.last)
