@@ -1,8 +1,9 @@
 -- What is said of sameness: two accepted plans are the same exactly if their tag files are equal apart from the plan number.
 -- Assumes nothing.
-use Rattle.std.specs.Prelude.{Ok}
+use Rattle.std.specs.Prelude.{Bool, true, false, Result, Ok, Err}
+use Rattle.refusals.specs.declared.refusal.Refusal.{Refusal}
 use Prim.Native.Nat.{ℕ, ◌<◌}
-use mathlib.Core.{Bool.true, Bool.cond, Path.◌≡◌, Path.refl, Path.sym, Path.ap, Path.◌∙◌, Logic.◌↔◌, Logic.⊎_elim, List.List, List.◌++◌}
+use mathlib.Core.{Bool.cond, Path.◌≡◌, Path.refl, Path.sym, Path.ap, Path.◌∙◌, Logic.◌↔◌, Logic.⊎_elim, List.List, List.◌++◌}
 use native.Mathlib.Omega.{arith}
 use lib.ListN.{drop}
 use borrow.Author.Tests.{eqb-true, eq-eqb}
@@ -59,7 +60,7 @@ module _ (first second : List ℕ) (count : window_count first ≡ window_count 
 
   numbers_agree : ((v : ℕ) → v < window_count first → drop 2 (tag_at first v) ≡ drop 2 (tag_at second v)) →
       SameNumbers (window_count first) (overlaps first) (overlaps second)
-  unfolding numbers_at numbers_of tag_with unplanned
+  unfolding numbers_at numbers_of unplanned
   numbers_agree tags =
       record {
         components = λ v h. ap (λ (t : Tag). t.component) (same v h);

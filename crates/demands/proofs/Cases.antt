@@ -115,8 +115,7 @@ cases_hold = tests_hold cases cases_pass
 
 -- Q-2's cases pass, and so they hold.
 minimum_cases_pass : tests minimum_cases ≡ true
-unfolding definitions meaning component_count climb walk chain_of chain_between three equals minimum_cases tests test found
-    same_outcome same_list
+unfolding definitions meaning component_count climb walk chain_of chain_between three equals minimum_cases tests test found same_outcome same_list
 minimum_cases_pass = refl
 
 pub minimum_cases_hold : MinimumCasesHold

@@ -37,12 +37,10 @@ use Rattle.demands.proofs.Tree.{window_within}
 
 -- An answer names the rule's outcome.
 answer_count : (o : Outcome) (k : ℕ) → (answer_of o ≡ PairAnswer.Handovers k) ↔ (o ≡ apart k)
-unfolding answer_of
 answer_count (apart j) k = (λ e. let same : j ≡ k = cc in ap apart same, λ e. let same : j ≡ k = cc in ap PairAnswer.Handovers same)
 answer_count no_chain k = (λ e. let z : ◌≡◌ {A = ℕ} 0 1 = cc in absurd (omega arith), λ e. let z : ◌≡◌ {A = ℕ} 0 1 = cc in absurd (omega arith))
 
 answer_none : (o : Outcome) → (answer_of o ≡ PairAnswer.NoChain) ↔ (o ≡ no_chain)
-unfolding answer_of
 answer_none (apart j) = (λ e. let z : ◌≡◌ {A = ℕ} 0 1 = cc in absurd (omega arith), λ e. let z : ◌≡◌ {A = ℕ} 0 1 = cc in absurd (omega arith))
 answer_none no_chain = (λ e. refl, λ e. refl)
 
@@ -85,7 +83,7 @@ module _ (file : List ℕ) (ok : AcceptedPlan file) (u v : ℕ) (hu : u < window
   pub pair_rule : pair_answer_of (tag_at file u) (tag_at file v)
       ≡ answer_of (outcome (numbers_of (window_count file) (overlaps file) (plan_number file) u)
       (numbers_of (window_count file) (overlaps file) (plan_number file) v))
-  unfolding tag_at numbers_at numbers_of compared_by compare_questions
+  unfolding tag_at numbers_at numbers_of compared_by
   pair_rule =
       pair_tag_file (numbers_at file) (window_count file) u v hu hv (window_within file ok u hu) (window_within file ok v hv)
       ∙ rw (eq-eqb (plan_number file) (plan_number file) refl, agree (numbers_at file) (λ w. refl) (λ w. refl))

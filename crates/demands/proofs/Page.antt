@@ -18,7 +18,6 @@ use Rattle.tag.specs.Pairing.{pair_answer_of}
 use Rattle.tag.proofs.Pairing.{pair_at_tag_file}
 use Rattle.numbering.specs.Tables.{numbers_at}
 use Rattle.page.specs.declared.Query.{Query}
-use Rattle.page.specs.declared.PageAnswer.{PageAnswer}
 use Rattle.page.specs.Page.{query_answer_of, with_answer, filled, page_answer_of, if_filled, after_page}
 use Rattle.page.specs.Passes.{as_one_pair}
 use Rattle.page.proofs.Filled.{map_alike, page_whole, whole_page, pair_filled, as_filled}
@@ -34,15 +33,15 @@ get_or_map f (x ∷ l) (suc i) d less = let inner : i < length l = omega (arith,
 -- By the page's answer.
 module _ (tags : List ℕ) (queries : List Query) where
   as_map : page_answer_of tags ≡ Ok tt → page_over tags queries ≡ map (filled tags) queries
-  unfolding if_filled after_page
+  unfolding after_page
   as_map e = rw e
 
   as_before : (r : Refusal) → page_answer_of tags ≡ Err r → page_over tags queries ≡ queries
-  unfolding if_filled after_page
+  unfolding after_page
   as_before r e = rw e
 
 after_long : (answer : PageAnswer) (tags : List ℕ) (queries : List Query) → length (after_page answer tags queries) ≡ length queries
-unfolding if_filled after_page
+unfolding after_page
 after_long Ok tt tags queries = length-map queries (filled tags)
 after_long (Err r) tags queries = refl
 
@@ -54,7 +53,7 @@ map_twice tags (query ∷ queries) = ap (λ (later : List Query). filled tags qu
 
 after_twice : (answer : PageAnswer) (tags : List ℕ) (queries : List Query) →
     after_page answer tags (after_page answer tags queries) ≡ after_page answer tags queries
-unfolding if_filled after_page
+unfolding after_page
 after_twice Ok tt tags queries = map_twice tags queries
 after_twice (Err r) tags queries = refl
 

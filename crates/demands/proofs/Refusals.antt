@@ -54,18 +54,12 @@ module _ {A : Type 0} (refused : Refusal → A) (accepted : A) (tells : (r s : R
 
 -- What the rule says of two tags, and what is found of a chain, is no refusal.
 pub outcome_answered : (o : Outcome) (r : Refusal) → answer_of o ≡ PairAnswer.Refused r → ⊥
-unfolding answer_of
 outcome_answered (apart k) r e = let z : ◌≡◌ {A = ℕ} 0 1 = cc in omega arith
 outcome_answered no_chain r e = let z : ◌≡◌ {A = ℕ} 0 1 = cc in omega arith
 
-chain_found_lem : (l : List ℕ) (r : Refusal) → chain_found l ≡ Err r → ⊥
-unfolding chain_found
-chain_found_lem [] r e = let z : ◌≡◌ {A = ℕ} 0 1 = cc in omega arith
-chain_found_lem (x ∷ l) r e = let z : ◌≡◌ {A = ℕ} 0 1 = cc in omega arith
-
-same_found : (b : mathlib.Core.Bool.Bool) (r : Refusal) → cond b Ok true Ok false ≡ Err r → ⊥
-same_found true r e = let z : ◌≡◌ {A = ℕ} 0 1 = cc in omega arith
-same_found false r e = let z : ◌≡◌ {A = ℕ} 0 1 = cc in omega arith
+-- An answer of the library's type, which tells by itself what is a refusal.
+refuses_result : {A : Type 0} (accepted : A) (qs : List Question) → Refuses qs Err (first_no qs Err (Ok accepted))
+refuses_result accepted = refuses Err (Ok accepted) (λ r s e. cc) (λ r (e : Ok accepted ≡ Err r). cc)
 
 -- An answer that is the same refuses the same.
 refuses_as : {A : Type 0} {qs : List Question} {refused : Refusal → A} {answer other : A} → answer ≡ other → Refuses qs refused answer →
@@ -73,41 +67,38 @@ refuses_as : {A : Type 0} {qs : List Question} {refused : Refusal → A} {answer
 refuses_as e by r = (λ f. (by r).0 (e ∙ f), λ m. sym e ∙ (by r).1 m)
 
 pub demand_1 : Demand1
-unfolding validate_answer_of numbers_answer_of build_answer_of tags_answer_of table_answer_of reach_in reach_of reach_answer_of chain_answer_of neighbours_answer_of same_answer_of
-    read_answer_of write_answer_of lookup_answer_of pair_answer_of pair_at_answer_of after_build after_tags after_table after_chain after_neighbours
-    after_write short_tags_answer_of even_table_answer_of short_read_answer_of short_write_answer_of short_pair_answer_of short_pair_at_answer_of after_short_tags
-    after_short_write page_answer_of if_filled after_page query_questions change_answer_of after_change margin_answer_of asked_of
+unfolding validate_answer_of numbers_answer_of build_answer_of tags_answer_of table_answer_of reach_in reach_of reach_answer_of chain_answer_of neighbours_answer_of same_answer_of after_build after_tags after_table after_chain after_neighbours short_tags_answer_of even_table_answer_of after_short_tags after_page change_answer_of after_change margin_answer_of
 demand_1 =
     record {
-      validating = λ file. refuses Err _ (λ r s e. cc) (λ r e. let z : ◌≡◌ {A = ℕ} 0 1 = cc in omega arith) _;
-      building = λ file p c d r l t. refuses Err _ (λ r s e. cc) (λ r e. let z : ◌≡◌ {A = ℕ} 0 1 = cc in omega arith) _;
-      tagging = λ file room. refuses Err _ (λ r s e. cc) (λ r e. let z : ◌≡◌ {A = ℕ} 0 1 = cc in omega arith) _;
-      tabling = λ file room. refuses Err _ (λ r s e. cc) (λ r e. let z : ◌≡◌ {A = ℕ} 0 1 = cc in omega arith) _;
-      numbering = λ file room. refuses Err _ (λ r s e. cc) (λ r e. let z : ◌≡◌ {A = ℕ} 0 1 = cc in omega arith) _;
-      reaching = λ file at. refuses Err _ (λ r s e. cc) (λ r e. let z : ◌≡◌ {A = ℕ} 0 1 = cc in omega arith) _;
-      chaining = λ file first second room. refuses Err _ (λ r s e. cc) (chain_found_lem (chain_between file first second)) _;
-      neighbouring = λ file at room. refuses Err _ (λ r s e. cc) (λ r e. let z : ◌≡◌ {A = ℕ} 0 1 = cc in omega arith) _;
-      margining = λ file first second. refuses Err _ (λ r s e. cc) (λ r e. let z : ◌≡◌ {A = ℕ} 0 1 = cc in omega arith) _;
-      changing = λ file c changed tags. refuses Err _ (λ r s e. cc) (λ r e. let z : ◌≡◌ {A = ℕ} 0 1 = cc in omega arith) _;
-      comparing = λ first second. refuses Err _ (λ r s e. cc) (same_found (same_overlap first second)) _;
-      reading = λ bytes. refuses Err _ (λ r s e. cc) (λ r e. let z : ◌≡◌ {A = ℕ} 0 1 = cc in omega arith) _;
-      writing = λ n out. refuses Err _ (λ r s e. cc) (λ r e. let z : ◌≡◌ {A = ℕ} 0 1 = cc in omega arith) _;
-      looking_up = λ tags at. refuses Err _ (λ r s e. cc) (λ r e. let z : ◌≡◌ {A = ℕ} 0 1 = cc in omega arith) _;
+      validating = λ file. refuses_result _ _;
+      building = λ file p c d r l t. refuses_result _ _;
+      tagging = λ file room. refuses_result _ _;
+      tabling = λ file room. refuses_result _ _;
+      numbering = λ file room. refuses_result _ _;
+      reaching = λ file at. refuses_result _ _;
+      chaining = λ file first second room. refuses_result _ _;
+      neighbouring = λ file at room. refuses_result _ _;
+      margining = λ file first second. refuses_result _ _;
+      changing = λ file c changed tags. refuses_result _ _;
+      comparing = λ first second. refuses_result _ _;
+      reading = λ bytes. refuses_result _ _;
+      writing = λ n out. refuses_result _ _;
+      looking_up = λ tags at. refuses_result _ _;
       pairing = λ first second. refuses PairAnswer.Refused _ (λ r s e. cc) (outcome_answered (outcome (numbers (tag_of first)) (numbers (tag_of second)))) _;
       pairing_at = λ tags first second. refuses PairAnswer.Refused _ (λ r s e. cc)
           (outcome_answered (outcome (numbers (tag_of (tag_part tags first))) (numbers (tag_of (tag_part tags second))))) _;
-      short_tagging = λ file room. refuses Err _ (λ r s e. cc) (λ r e. let z : ◌≡◌ {A = ℕ} 0 1 = cc in omega arith) _;
-      even_tabling = λ file room. refuses Err _ (λ r s e. cc) (λ r e. let z : ◌≡◌ {A = ℕ} 0 1 = cc in omega arith) _;
-      short_reading = λ bytes. refuses Err _ (λ r s e. cc) (λ r e. let z : ◌≡◌ {A = ℕ} 0 1 = cc in omega arith) _;
-      short_writing = λ n out. refuses Err _ (λ r s e. cc) (λ r e. let z : ◌≡◌ {A = ℕ} 0 1 = cc in omega arith) _;
+      short_tagging = λ file room. refuses_result _ _;
+      even_tabling = λ file room. refuses_result _ _;
+      short_reading = λ bytes. refuses_result _ _;
+      short_writing = λ n out. refuses_result _ _;
       short_pairing = λ first second. refuses PairAnswer.Refused _ (λ r s e. cc)
           (outcome_answered (short_outcome (short_numbers (short_tag_of first)) (short_numbers (short_tag_of second)))) _;
       short_pairing_at = λ tags first second. refuses PairAnswer.Refused _ (λ r s e. cc) (outcome_answered (short_outcome
           (short_numbers (short_tag_of (part_of short_length tags first))) (short_numbers (short_tag_of (part_of short_length tags second))))) _;
-      paging = λ tags. refuses Err _ (λ r s e. cc) (λ r e. let z : ◌≡◌ {A = ℕ} 0 1 = cc in omega arith) _;
+      paging = λ tags. refuses_result _ _;
       querying = λ tags first second. refuses_as (sym (query_asked tags first second)) (refuses PairAnswer.Refused _ (λ r s e. cc)
           (outcome_answered (outcome (numbers (tag_of (tag_part tags first))) (numbers (tag_of (tag_part tags second))))) _);
-      asking = λ questions. refuses Err _ (λ r s e. cc) (λ r e. let z : ◌≡◌ {A = ℕ} 0 1 = cc in omega arith) questions;
+      asking = λ questions. refuses_result _ questions;
       build_untouched = λ r f before. refl;
       tags_untouched = λ r f before. refl;
       short_tags_untouched = λ r f before. refl;

@@ -37,7 +37,7 @@ use Rattle.demands.proofs.Counts.{agree, pair_rule, demand_3}
 module _ (file : List ℕ) (ok : AcceptedPlan file) (u v : ℕ) (hu : u < window_count file) (hv : v < window_count file) where
   -- So the answer from two short tags is what their rule says.
   short_rule : short_pair_answer_of (short_tag_at file u) (short_tag_at file v) ≡ answer_of (short_outcome (short (numbers_at file u)) (short (numbers_at file v)))
-  unfolding short_tag_at compared_by compare_questions numbers_at numbers_of short
+  unfolding short_tag_at compared_by numbers_at numbers_of short
   short_rule =
       rw (short_tag_file_part (numbers_at file) (window_count file) u hu, short_tag_file_part (numbers_at file) (window_count file) v hv)
       (pair_short_bytes (numbers_at file u) (numbers_at file v) (window_within file ok u hu) (window_within file ok v hv)
@@ -59,7 +59,7 @@ short_pairs file ok rise u v hu hv =
 
 -- Windows 1 and 3 of plan 12 are 2 apart, and their short tags say 1.
 pub needs_even : NeedsEven
-unfolding definitions meaning plan12 short short_between numbers_at answer_of
+unfolding definitions meaning plan12 short short_between numbers_at
 needs_even =
     let ok : AcceptedPlan plan12 = refl in let hu : 1 < window_count plan12 = omega arith in let hv : 3 < window_count plan12 = omega arith in
     let one : short_pair_answer_of (short_tag_at plan12 1) (short_tag_at plan12 3) ≡ PairAnswer.Handovers 1 = short_rule plan12 ok 1 3 hu hv in

@@ -17,7 +17,7 @@ use Rattle.tag_bytes.proofs.Fields.{limit_within, length-tag_bytes}
 use Rattle.tag_bytes.proofs.Writing.{tag_bytes_read, written_reads_back, read_tag_bytes, read_accepted}
 use Rattle.tag_bytes.proofs.TagFile.{tag_file_lookup}
 use Rattle.numbering.specs.declared.filling.Built as numbering
-use Rattle.numbering.specs.declared.answers.BuildAnswer.{BuildAnswer}
+use Rattle.numbering.specs.declared.filling.Built as numbering
 use Rattle.minutes.specs.Tables.{parent_of}
 use Rattle.numbering.specs.Tables.{component_of, depth_of, rank_of, last_rank_of, component_count, numbers_at}
 use Rattle.numbering.specs.Numbering.{after_build}
@@ -48,7 +48,7 @@ built file answer e =
     }
 
 pub demand_2 : Demand2
-unfolding tag_at numbers_at after_write overwritten
+unfolding tag_at numbers_at overwritten
 demand_2 =
     record {
       tree = λ file ok p c d r l t hp hc hd hr hl ht. built file _ (build_built file p c d r l t ok

@@ -1,7 +1,6 @@
 -- Paper 01, "Calls on a plan": what it says of sameness, of what the call answers for accepted plans.
 -- Vocabulary: SameOverlap, EqualTags, SameAnswered.
-use Rattle.std.specs.Prelude.{Ok}
-use Rattle.std.specs.Prelude.{ℕ, ◌<◌, drop}
+use Rattle.std.specs.Prelude.{Ok, true, false, ℕ, ◌<◌, drop}
 use mathlib.Core.{Path.◌≡◌, Logic.◌↔◌, List.List}
 use Rattle.plan.specs.{File.window_count, Validation.AcceptedPlan}
 use Rattle.overlap.specs.Overlap.{overlaps}

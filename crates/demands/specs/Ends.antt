@@ -1,14 +1,14 @@
 -- Paper 02, Q-8: plans in seconds. "The unit is agreed outside the file": no definition has one, and what paper 01 calls a minute is
 -- one of the plan's units of time.
 -- Vocabulary: span, EndAsked, EndsAsked, EndsFit, LastsByEnds, MarginsWithin, AddedAsked, AddedEnds, alone, late, LateCases.
-use Rattle.std.specs.Prelude.{Ok, Err, Result}
-use Rattle.std.specs.Prelude.{ℕ, ◌+◌, ◌≤◌, ◌<◌, pos, neg_ℤ, ◌≤ℤ◌}
+use Rattle.std.specs.Prelude.{Ok, Err, Result, ℕ, ◌+◌, ◌≤◌, ◌<◌, pos, neg_ℤ, ◌≤ℤ◌}
 use mathlib.Core.{Bool.true, Bool.false, Path.◌≡◌, Logic.◌↔◌, Logic.◌≢◌, List.List, List.[], List.◌∷◌}
 use Rattle.refusals.specs.Question.{refusal_by}
+use Rattle.refusals.specs.declared.refusal.Refusal.{Refusal}
 use Rattle.plan.specs.declared.windows.Window.{Window}
 use Rattle.plan.specs.declared.questions.Accepted.{Accepted}
 use Rattle.plan.specs.File.{plan_number, window_count, minimum_handover, window_at, end_of, file_of}
-use Rattle.plan.specs.Validation.{minimum_passes, AcceptedPlan, validate_answer_of}
+use Rattle.plan.specs.Validation.{accepted_as, minimum_passes, AcceptedPlan, validate_answer_of}
 use Rattle.overlap.specs.Overlap.{overlaps}
 use Rattle.overlap.specs.Margin.{margin_between, margin_answer_of}
 use Rattle.minutes.specs.Tables.{last_of}

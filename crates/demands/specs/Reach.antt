@@ -8,7 +8,7 @@ use Rattle.plan.specs.{File.window_count, Validation.AcceptedPlan}
 use Rattle.overlap.specs.Overlap.{overlaps}
 use Rattle.tag.specs.Pairing.{pair_answer_of}
 use Rattle.tag.specs.declared.pairs.PairAnswer.TheVariants as PairAnswer
-use Rattle.reaching.specs.Reach.{reach_answer_of}
+use Rattle.reaching.specs.Reach.{reach_as, reach_answer_of}
 use Rattle.demands.specs.EndToEnd.{tag_at}
 
 -- What is answered of the component of the window `at`.

@@ -1,11 +1,11 @@
 -- Demand 2: the tree and tags of an accepted plan are exactly paper 01's. A written tag reads back as the same five numbers, and ten
 -- bytes that read as a tag are written back the same. The tree is that of `interval_graph/specs`, of the overlap of `plan/specs`.
 -- Vocabulary: Leaves, Built, Demand2.
-use Rattle.std.specs.Prelude.{Ok}
-use Rattle.std.specs.Prelude.{ℕ, ◌≤◌, ◌<◌, ◌*◌, length, get_or, take, drop}
+use Rattle.std.specs.Prelude.{Ok, Result, ℕ, ◌≤◌, ◌<◌, ◌*◌, length, get_or, take, drop}
 use mathlib.Core.{Path.◌≡◌, List.List, List.◌++◌}
 use Rattle.sequences.specs.Table.{table, overwritten}
 use Rattle.interval_graph.specs.{Tree.parent, Tree.component, Tree.depth, Tree.rank, Tree.last_rank, Numbers.Numbers, Numbers.numbers_of}
+use Rattle.refusals.specs.declared.refusal.Refusal.{Refusal}
 use Rattle.plan.specs.{File.plan_number, File.window_count, Validation.AcceptedPlan}
 use Rattle.overlap.specs.Overlap.{overlaps}
 use Rattle.tag_bytes.specs.{declared.tag.Tag.Tag, Fields.tag_length, Fields.numbers, Fields.tag_with, TagFile.tag_file}
@@ -13,7 +13,7 @@ use Rattle.tag_bytes.specs.{Reading.read_answer_of, Writing.write_answer_of, Wri
 use Rattle.minutes.specs.Tables.{parent_of}
 use Rattle.numbering.specs.declared.filling.Built as numbering
 use Rattle.numbering.specs.Tables.{component_of, depth_of, rank_of, last_rank_of, component_count, numbers_at}
-use Rattle.numbering.specs.{Numbering.after_build}
+use Rattle.numbering.specs.{Numbering.after_build, Numbering.built_as}
 use Rattle.tree.specs.Build.{build_answer_of, after_tags}
 use Rattle.demands.specs.EndToEnd.{tag_at}
 

@@ -8,7 +8,7 @@ ghost use Rattle.packing.specs.Packing.{packed_build};
 ghost use Rattle.poddreshi.specs.Lent.{changed_in};
 
 use changing::{Change, Edit};
-use packing::pack_build;
+use packing::Packed;
 use plan::Window;
 
 /// The plan with the window of this offset and so many minutes.
@@ -32,7 +32,7 @@ pub fn poddreshi_add(
         plan,
         edit: Edit::Add(window),
     };
-    pack_build(changing::apply(file, change, changed, tags))
+    changing::apply(file, change, changed, tags).pack()
 }
 
 /// The plan without the window at a position.
@@ -51,5 +51,5 @@ pub fn poddreshi_withdraw(
         plan,
         edit: Edit::Withdraw(at),
     };
-    pack_build(changing::apply(file, change, changed, tags))
+    changing::apply(file, change, changed, tags).pack()
 }

@@ -14,16 +14,13 @@ ghost use Rattle.sameness.specs.Sameness.{same_answer_of};
 ghost use Rattle.packing.specs.Packing.{packed_validation, packed_build, packed_reach, packed_chain, packed_neighbours, packed_margin, packed_same};
 ghost use Rattle.poddreshi.specs.Lent.{built_in, margin_after};
 
-use overlap::MarginAnswer;
-use packing::{
-    pack_build, pack_chain, pack_margin, pack_neighbours, pack_reach, pack_same, pack_validation,
-};
+use packing::{Chain, Done, Neighbours, Packed, Sameness};
 
 /// Whether a file is that of an accepted plan.
 pub fn poddreshi_validate(file: &[u8]) -> u64
     ensures { result ≡ packed_validation (validate_answer_of file.now) }
 {
-    pack_validation(plan::validate(file))
+    plan::validate(file).pack()
 }
 
 /// The five tables and the tag file of a plan.
@@ -44,7 +41,7 @@ pub fn poddreshi_build(
     ensures last_ranks_after { last_ranks.new ≡ after_build (built_in file.now parents.old components.old depths.old ranks.old last_ranks.old tags.old) (last_rank_of file.now) last_ranks.old }
     ensures tags_after { tags.new ≡ after_tags (built_in file.now parents.old components.old depths.old ranks.old last_ranks.old tags.old) (numbers_at file.now) tags.old }
 {
-    pack_build(tree::build(file, parents, components, depths, ranks, last_ranks, tags))
+    tree::build(file, parents, components, depths, ranks, last_ranks, tags).pack()
 }
 
 /// The tag file of a plan.
@@ -52,7 +49,7 @@ pub fn poddreshi_tags(file: &[u8], tags: &mut [u8]) -> u64
     ensures value { result ≡ packed_build (tags_answer_of file.now (length tags.old)) }
     ensures tags_after { tags.new ≡ after_tags (tags_answer_of file.now (length tags.old)) (numbers_at file.now) tags.old }
 {
-    pack_build(tree::tag_file(file, tags))
+    tree::tag_file(file, tags).pack()
 }
 
 /// The file of an even plan's short tags.
@@ -60,14 +57,14 @@ pub fn poddreshi_short_tags(file: &[u8], tags: &mut [u8]) -> u64
     ensures value { result ≡ packed_build (short_tags_answer_of file.now (length tags.old)) }
     ensures tags_after { tags.new ≡ after_short_tags (short_tags_answer_of file.now (length tags.old)) (numbers_at file.now) tags.old }
 {
-    pack_build(even_tags::short_tag_file(file, tags))
+    even_tags::short_tag_file(file, tags).pack()
 }
 
 /// The greatest number of handovers between two windows of a position's component, and the first pair that has it.
 pub fn poddreshi_reach(file: &[u8], at: usize) -> u64
     ensures { result ≡ packed_reach (reach_answer_of file.now at) }
 {
-    pack_reach(reaching::reach(file, at))
+    reaching::reach(file, at).pack()
 }
 
 /// The shortest chain between two windows that has the earliest window at each step, from the later to the earlier.
@@ -75,7 +72,7 @@ pub fn poddreshi_chain(file: &[u8], first: usize, second: usize, out: &mut [u16]
     ensures value { result ≡ packed_chain (chain_answer_of file.now first second (length out.old)) }
     ensures out_after { out.new ≡ after_chain (chain_answer_of file.now first second (length out.old)) (chain_between file.now first second) out.old }
 {
-    pack_chain(path::chain(file, first, second, out))
+    path::chain(file, first, second, out).map(|entries| Chain(entries)).pack()
 }
 
 /// The positions that overlap one window, rising, without itself.
@@ -83,7 +80,7 @@ pub fn poddreshi_neighbours(file: &[u8], at: usize, out: &mut [u16]) -> u64
     ensures value { result ≡ packed_neighbours (neighbours_answer_of file.now at (length out.old)) }
     ensures out_after { out.new ≡ after_neighbours (neighbours_answer_of file.now at (length out.old)) (neighbours_of file.now at) out.old }
 {
-    pack_neighbours(neighbouring::neighbours(file, at, out))
+    neighbouring::neighbours(file, at, out).map(|count| Neighbours(count)).pack()
 }
 
 /// The margin of two windows, which may be one: the smaller end less the greater offset.
@@ -91,18 +88,16 @@ pub fn poddreshi_margin(file: &[u8], first: usize, second: usize, margin: &mut i
     ensures value { result ≡ packed_margin (margin_answer_of file.now first second) }
     ensures margin_after { margin.new ≡ margin_after (margin_answer_of file.now first second) margin.old }
 {
-    match overlap::margin(file, first, second) {
-        MarginAnswer::Margin(minutes) => {
-            *margin = minutes;
-            pack_margin(MarginAnswer::Margin(minutes))
-        }
-        MarginAnswer::Refused(refusal) => pack_margin(MarginAnswer::Refused(refusal)),
+    let answer = overlap::margin(file, first, second);
+    if let Ok(minutes) = answer {
+        *margin = minutes;
     }
+    answer.map(|_| Done::Measured).pack()
 }
 
 /// Whether two plans are the same.
 pub fn poddreshi_same(first: &[u8], second: &[u8]) -> u64
     ensures { result ≡ packed_same (same_answer_of first.now second.now) }
 {
-    pack_same(sameness::same(first, second))
+    sameness::same(first, second).map(|same| Sameness(same)).pack()
 }
