@@ -13,6 +13,7 @@ use refusals::Refusal;
 pub fn same(first: &[u8], second: &[u8]) -> Result<bool, Refusal>
     ensures { result ≡ same_answer_of first.now second.now }
 {
+    // Both tables are as long as any plan's and lie on the stack: the library has no heap, and so no `Vec` of just the windows.
     let mut lasts = [0; GREATEST_COUNT];
     let windows = minutes::last_table(first, &mut lasts)?;
     let mut others = [0; GREATEST_COUNT];
