@@ -1,7 +1,7 @@
 -- Demand 3: the theory of `interval_graph` at the overlap of an accepted plan, through the tags that build writes and the chain that
 -- the plan answers with.
 -- Assumes nothing.
-use Rattle.std.specs.Prelude.{Ok, Err, Some, None}
+use Rattle.std.specs.Prelude.{Ok, Err, Some, None, Option, Result}
 use Prim.Native.Nat.{ℕ, suc, ◌≤◌, ◌<◌}
 use mathlib.Core.{Bool.true, Bool.false, Bool.◌&&◌, Path.◌≡◌, Path.refl, Path.sym, Path.ap, Path.◌∙◌, Logic.◌↔◌, Logic.⊎_elim, List.List}
 use mathlib.Core.{List.[], List.◌∷◌}
@@ -19,7 +19,8 @@ use Rattle.interval_graph.proofs.Outcome.{equal_refl}
 use Rattle.interval_graph.proofs.Rule.{outcome_apart, outcome_no_chain, same_window}
 use Rattle.interval_graph.proofs.ShortestChain.{chain_least, chain_earliest_shortest, chain_first}
 use Rattle.interval_graph.proofs.ShortestChain.{least_is_chain, chain_empty_iff_apart, root_joined, joined_root}
-use Rattle.refusals.specs.Question.{refusal_by, question, from, first_no, position_question, position_questions, room_question}
+use Rattle.refusals.specs.Question.{refusal_by, first_no, room_question}
+use Rattle.refusals.specs.declared.refusal.Refusal.{Refusal}
 use Rattle.plan.specs.File.{plan_number, window_count}
 use Rattle.overlap.specs.Overlap.{overlaps}
 use Rattle.plan.specs.Validation.{AcceptedPlan, validate_answer_of}
@@ -27,7 +28,7 @@ use Rattle.plan.proofs.Acceptance.{accepted_validated}
 use Rattle.overlap.proofs.InOrder.{interval_order}
 use Rattle.plan.proofs.Calls.{plan_accepted}
 use Rattle.tag.specs.declared.pairs.PairAnswer.{PairAnswer}
-use Rattle.tag.specs.Pairing.{agreeing, compare_questions, answer_of, compared_by, pair_answer_of}
+use Rattle.tag.specs.Pairing.{agreeing, answer_of, compared_by, pair_answer_of}
 use Rattle.tag.proofs.Pairing.{pair_tag_file}
 use Rattle.numbering.specs.Tables.{numbers_at}
 use Rattle.path.specs.Chain.{chain_between, chain_questions, chain_found, chain_answer_of, after_chain}

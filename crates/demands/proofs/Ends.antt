@@ -9,7 +9,7 @@ use lib.IntN.{pos, neg_ℤ}
 use lib.Signed.{◌≤ℤ◌}
 use borrow.Author.Tests.{lt-ltb, le-leb, lt-leb, ne_eqb}
 use Rattle.sequences.proofs.Tests.{lt_or_ge}
-use Rattle.refusals.specs.Question.{refusal_by, question, from, first_no, all_yes, position_question, position_questions}
+use Rattle.refusals.specs.Question.{refusal_by}
 use Rattle.plan.specs.declared.windows.Window.{Window}
 use Rattle.plan.specs.File.{plan_number, window_count, minimum_handover, window_at, end_of, file_of}
 use Rattle.plan.specs.Validation.{greatest_count, greatest_end, minimum_passes, window_questions, AcceptedPlan, validate_answer_of}

@@ -5,7 +5,6 @@ use Prim.Native.Nat.{ℕ, ◌≤◌, ◌<◌}
 use mathlib.Core.{Path.◌≡◌, Path.refl, Path.sym, Path.◌∙◌, List.List}
 use native.Mathlib.Omega.{arith}
 use borrow.Author.Tests.{lt-ltb}
-use Rattle.refusals.specs.Question.{question, from, first_no, position_question, position_questions}
 use Rattle.plan.specs.{File.window_count, File.minimum_handover, File.window_at, Validation.AcceptedPlan, Validation.validate_answer_of}
 use Rattle.plan.proofs.{Acceptance.accepted_sound, Acceptance.accepted_validated, Calls.plan_accepted}
 use Rattle.overlap.specs.Margin.{margin_between, margin_questions, margin_answer_of}

@@ -6,7 +6,6 @@ use native.Mathlib.Omega.{arith}
 use borrow.Author.Tests.{leb-true, le-leb}
 use Rattle.sequences.proofs.Tests.{true_false_absurd}
 use Rattle.interval_graph.proofs.Plan12.{definitions}
-use Rattle.refusals.specs.Question.{all_yes}
 use Rattle.plan.specs.{declared.windows.Window.Window, File.minimum_handover, File.window_at, File.end_of, File.file_of}
 use Rattle.overlap.specs.Overlap.{overlaps, margin_reaches, shares_minute}
 use Rattle.overlap.proofs.Plan12.{meaning}

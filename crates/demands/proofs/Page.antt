@@ -1,14 +1,13 @@
 -- Q-4: a page over build's tag file says of each record what demand 3 says of its windows; and of every tag file, that each record is
 -- filled by itself.
 -- Assumes nothing.
-use Rattle.std.specs.Prelude.{Ok, Err}
+use Rattle.std.specs.Prelude.{Ok, Err, Result}
 use Prim.Native.Nat.{ℕ, zero, suc, ◌%◌, ◌<◌}
 use mathlib.Core.{Path.◌≡◌, Path.refl, Path.sym, Path.ap, Path.◌∙◌, List.List, List.[], List.◌∷◌, List.map}
 use native.Mathlib.Omega.{arith}
 use lib.ListN.{length, get_or, length-map}
 use borrow.Author.Tests.{lt-ltb}
 use Rattle.refusals.specs.declared.refusal.Refusal.{Refusal}
-use Rattle.refusals.specs.Question.{question, from, first_no, position_question, position_questions}
 use Rattle.plan.specs.File.{window_count}
 use Rattle.plan.specs.Validation.{AcceptedPlan}
 use Rattle.tag_bytes.specs.Fields.{tag_length}
@@ -18,7 +17,7 @@ use Rattle.tag.specs.Pairing.{pair_answer_of}
 use Rattle.tag.proofs.Pairing.{pair_at_tag_file}
 use Rattle.numbering.specs.Tables.{numbers_at}
 use Rattle.page.specs.declared.Query.{Query}
-use Rattle.page.specs.Page.{query_answer_of, with_answer, filled, page_answer_of, if_filled, after_page}
+use Rattle.page.specs.Page.{query_answer_of, with_answer, filled, page_answer_of, after_page}
 use Rattle.page.specs.Passes.{as_one_pair}
 use Rattle.page.proofs.Filled.{map_alike, page_whole, whole_page, pair_filled, as_filled}
 use Rattle.demands.specs.EndToEnd.{tag_at}
@@ -40,9 +39,9 @@ module _ (tags : List ℕ) (queries : List Query) where
   unfolding after_page
   as_before r e = rw e
 
-after_long : (answer : PageAnswer) (tags : List ℕ) (queries : List Query) → length (after_page answer tags queries) ≡ length queries
+after_long : (answer : Result (Unit {0}) Refusal) (tags : List ℕ) (queries : List Query) → length (after_page answer tags queries) ≡ length queries
 unfolding after_page
-after_long Ok tt tags queries = length-map queries (filled tags)
+after_long (Ok tt) tags queries = length-map queries (filled tags)
 after_long (Err r) tags queries = refl
 
 -- A filled record is filled already.
@@ -51,10 +50,10 @@ unfolding filled with_answer
 map_twice tags [] = refl
 map_twice tags (query ∷ queries) = ap (λ (later : List Query). filled tags query ∷ later) (map_twice tags queries)
 
-after_twice : (answer : PageAnswer) (tags : List ℕ) (queries : List Query) →
+after_twice : (answer : Result (Unit {0}) Refusal) (tags : List ℕ) (queries : List Query) →
     after_page answer tags (after_page answer tags queries) ≡ after_page answer tags queries
 unfolding after_page
-after_twice Ok tt tags queries = map_twice tags queries
+after_twice (Ok tt) tags queries = map_twice tags queries
 after_twice (Err r) tags queries = refl
 
 pub page_filled : PageFilled

@@ -1,18 +1,19 @@
 -- Q-5: the call answers by the definition that computes, of which the theory says that it is what chains say.
 -- Assumes nothing.
-use Rattle.std.specs.Prelude.{Err}
+use Rattle.std.specs.Prelude.{Result, Ok, Err}
+use Rattle.refusals.specs.declared.refusal.Refusal.{Refusal}
+use Rattle.reaching.specs.declared.answers.Reach.{Reach}
 use Prim.Native.Nat.{ℕ, ◌<◌}
-use mathlib.Core.{Path.◌≡◌, Path.refl, Path.sym, Path.◌∙◌, List.List, List.[]}
+use mathlib.Core.{Path.◌≡◌, Path.refl, Path.sym, Path.ap, Path.◌∙◌, List.List, List.[]}
 use borrow.Author.Tests.{lt-ltb}
 use Rattle.interval_graph.specs.{Reach.Farthest, Reach.reach, Reach.smaller, Reach.larger}
 use Rattle.interval_graph.proofs.{Reach.reach_bound_lem, ShortestChain.joined_iff_component}
 use Rattle.interval_graph.proofs.Farthest.{reach_far, far_farthest, farthest_unique, farthest_alone, farthest_windows}
-use Rattle.refusals.specs.Question.{question, first_no, position_question}
 use Rattle.plan.specs.{File.window_count, Validation.AcceptedPlan, Validation.validate_answer_of}
 use Rattle.overlap.specs.Overlap.{overlaps}
 use Rattle.plan.proofs.{Acceptance.accepted_validated, Calls.plan_accepted}
 use Rattle.overlap.proofs.InOrder.{interval_order}
-use Rattle.reaching.specs.Reach.{reach_questions, reach_in, reach_of, reach_answer_of}
+use Rattle.reaching.specs.Reach.{reach_as, reach_questions, reach_in, reach_of, reach_answer_of}
 use Rattle.demands.specs.Reach.{ReachExact, Components, ReachBounds}
 use Rattle.demands.proofs.Counts.{demand_3}
 
@@ -25,6 +26,11 @@ reach_answered file ok at h =
     sym (plan_accepted file _ Err _ (validate_answer_of file) refl _ _ (accepted_validated file ok))
     ∙ rw (lt-ltb at (window_count file) h)
 
+-- The numbers of a reach that was answered.
+abbrev answered_of : (Reach → ℕ) → Result Reach Refusal → ℕ
+answered_of figure (Ok found) = figure found
+answered_of figure (Err refusal) = 0
+
 module _ (file : List ℕ) (ok : AcceptedPlan file) (at : ℕ) (h : at < window_count file) where
   -- They are the farthest pair.
   found : Farthest (window_count file) (overlaps file) at (reach (window_count file) (overlaps file) at)
@@ -36,8 +42,9 @@ module _ (file : List ℕ) (ok : AcceptedPlan file) (at : ℕ) (h : at < window_
       let same : reach_as k u v ≡ reach_as (reach (window_count file) (overlaps file) at)
       (smaller (window_count file) (overlaps file) at) (larger (window_count file) (overlaps file) at) = sym e ∙ reach_answered file ok at h
       in
-      let p : k ≡ reach (window_count file) (overlaps file) at = cc in let q : u ≡ smaller (window_count file) (overlaps file) at = cc in
-      let r : v ≡ larger (window_count file) (overlaps file) at = cc in rw (p, q, r) found
+      let p : k ≡ reach (window_count file) (overlaps file) at = ap (answered_of (λ r. r.handovers)) same in
+      let q : u ≡ smaller (window_count file) (overlaps file) at = ap (answered_of (λ r. r.smaller)) same in
+      let r : v ≡ larger (window_count file) (overlaps file) at = ap (answered_of (λ r. r.larger)) same in rw (p, q, r) found
 
   exactly_answered : (k u v : ℕ) → Farthest (window_count file) (overlaps file) at k u v → reach_answer_of file at ≡ reach_as k u v
   exactly_answered k u v f =

@@ -2,24 +2,21 @@
 -- Assumes nothing.
 use Rattle.std.specs.Prelude.{Ok, Err}
 use Prim.Native.Nat.{ℕ}
-use mathlib.Core.{Bool.true, Bool.false, Bool.cond, Path.◌≡◌, Path.refl, Path.sym, Path.ap, Path.◌∙◌, Logic.⊎_elim, List.List, List.[]}
+use mathlib.Core.{Path.◌≡◌, Path.refl, Path.sym, Path.ap, Path.◌∙◌, Logic.⊎_elim, List.List, List.[]}
 use mathlib.Core.{List.◌∷◌}
 use native.Mathlib.Omega.{arith}
 use Rattle.sequences.proofs.Tests.{truth}
 use Rattle.interval_graph.specs.Numbers.{Outcome, apart, no_chain, outcome, short_outcome}
 use Rattle.refusals.specs.declared.refusal.Refusal.{Refusal}
-use Rattle.refusals.specs.Question.{Question, first_no, asked_of}
+use Rattle.refusals.specs.Question.{Question, first_no}
 use Rattle.refusals.proofs.Questions.{first_yes, first_no_lem}
 use Rattle.plan.specs.Validation.{validate_answer_of}
 use Rattle.tag.specs.declared.pairs.PairAnswer.TheVariants as PairAnswer
 use Rattle.tag_bytes.specs.Fields.{tag_of, numbers, short_length, short_tag_of, short_numbers}
-use Rattle.tag_bytes.specs.Reading.{read_answer_of, short_read_answer_of}
-use Rattle.tag_bytes.specs.Writing.{write_answer_of, after_write, short_write_answer_of, after_short_write}
-use Rattle.tag_bytes.specs.TagFile.{part_of, tag_part, lookup_answer_of}
+use Rattle.tag_bytes.specs.TagFile.{part_of, tag_part}
 use Rattle.tag_bytes.proofs.TagFile.{part_refused}
-use Rattle.tag.specs.Pairing.{answer_of, pair_answer_of, pair_at_answer_of}
-use Rattle.short_tag.specs.ShortPairing.{short_pair_answer_of, short_pair_at_answer_of}
-use Rattle.page.specs.Page.{query_questions, page_answer_of, if_filled, after_page}
+use Rattle.tag.specs.Pairing.{answer_of, pair_answer_by, pair_at_by}
+use Rattle.page.specs.Page.{after_page}
 use Rattle.page.proofs.Filled.{query_asked}
 use Rattle.numbering.specs.Numbering.{numbers_answer_of, after_build}
 use Rattle.tree.specs.Build.{build_answer_of, tags_answer_of, after_tags}
@@ -31,7 +28,7 @@ use Rattle.overlap.specs.Margin.{margin_answer_of}
 use Rattle.reaching.specs.Reach.{reach_in, reach_of, reach_answer_of}
 use Rattle.path.specs.Chain.{chain_between, chain_found, chain_answer_of, after_chain}
 use Rattle.neighbouring.specs.Neighbours.{neighbours_answer_of, after_neighbours}
-use Rattle.sameness.specs.Sameness.{same_overlap, same_answer_of}
+use Rattle.sameness.specs.Sameness.{same_answer_of}
 use Rattle.demands.specs.Refusals.{FirstNo, here, there, Refuses, Demand1}
 
 -- An answer by `first_no` is a refusal exactly if that is the first "no", where what is accepted is no refusal and a refusal can be
@@ -57,6 +54,11 @@ pub outcome_answered : (o : Outcome) (r : Refusal) → answer_of o ≡ PairAnswe
 outcome_answered (apart k) r e = let z : ◌≡◌ {A = ℕ} 0 1 = cc in omega arith
 outcome_answered no_chain r e = let z : ◌≡◌ {A = ℕ} 0 1 = cc in omega arith
 
+chain_found_lem : (l : List ℕ) (r : Refusal) → chain_found l ≡ Err r → ⊥
+unfolding chain_found
+chain_found_lem [] r e = let z : ◌≡◌ {A = ℕ} 0 1 = cc in omega arith
+chain_found_lem (x ∷ l) r e = let z : ◌≡◌ {A = ℕ} 0 1 = cc in omega arith
+
 -- An answer of the library's type, which tells by itself what is a refusal.
 refuses_result : {A : Type 0} (accepted : A) (qs : List Question) → Refuses qs Err (first_no qs Err (Ok accepted))
 refuses_result accepted = refuses Err (Ok accepted) (λ r s e. cc) (λ r (e : Ok accepted ≡ Err r). cc)
@@ -68,6 +70,7 @@ refuses_as e by r = (λ f. (by r).0 (e ∙ f), λ m. sym e ∙ (by r).1 m)
 
 pub demand_1 : Demand1
 unfolding validate_answer_of numbers_answer_of build_answer_of tags_answer_of table_answer_of reach_in reach_of reach_answer_of chain_answer_of neighbours_answer_of same_answer_of after_build after_tags after_table after_chain after_neighbours short_tags_answer_of even_table_answer_of after_short_tags after_page change_answer_of after_change margin_answer_of
+    pair_answer_by pair_at_by
 demand_1 =
     record {
       validating = λ file. refuses_result _ _;
@@ -76,7 +79,7 @@ demand_1 =
       tabling = λ file room. refuses_result _ _;
       numbering = λ file room. refuses_result _ _;
       reaching = λ file at. refuses_result _ _;
-      chaining = λ file first second room. refuses_result _ _;
+      chaining = λ file first second room. refuses Err _ (λ r s e. cc) (chain_found_lem (chain_between file first second)) _;
       neighbouring = λ file at room. refuses_result _ _;
       margining = λ file first second. refuses_result _ _;
       changing = λ file c changed tags. refuses_result _ _;

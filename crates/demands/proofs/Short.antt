@@ -9,7 +9,6 @@ use borrow.Author.Tests.{eq-eqb, le-leb}
 use Rattle.interval_graph.specs.Numbers.{numbers_of, short, short_between, short_outcome}
 use Rattle.interval_graph.proofs.Plan12.{definitions}
 use Rattle.interval_graph.proofs.Even.{short_outcome_lem}
-use Rattle.refusals.specs.Question.{question, from, room_question, first_no, all_yes}
 use Rattle.refusals.proofs.Questions.{first_append, all_first}
 use Rattle.plan.specs.File.{plan_number, window_count}
 use Rattle.plan.specs.Validation.{AcceptedPlan}
@@ -22,10 +21,11 @@ use Rattle.overlap.proofs.Even.{even_lasts}
 use Rattle.tag_bytes.specs.Fields.{short_length}
 use Rattle.tag_bytes.proofs.TagFile.{length-short_tag_file, short_tag_file_part}
 use Rattle.tag_bytes.proofs.Writing.{short_bytes_read, within_short, short_reads_back, short_writes_back}
-use Rattle.tag.specs.Pairing.{compare_questions, answer_of, compared_by, pair_answer_of}
+use Rattle.tag.specs.Pairing.{answer_of, compared_by, pair_answer_of}
 use Rattle.short_tag.specs.ShortPairing.{short_pair_answer_of}
 use Rattle.tag.specs.declared.pairs.PairAnswer.TheVariants as PairAnswer
 use Rattle.short_tag.proofs.ShortPairing.{pair_short_bytes, short_pair_symmetric, short_at_found}
+use Rattle.numbering.specs.Numbering.{built_as}
 use Rattle.numbering.specs.Tables.{component_count, numbers_at}
 use Rattle.even_tags.specs.ShortTags.{short_tags_questions, short_tags_answer_of, after_short_tags}
 use Rattle.demands.specs.EndToEnd.{tag_at}

@@ -1,18 +1,18 @@
 -- Demand 2.
 -- Assumes nothing.
-use Rattle.std.specs.Prelude.{}
+use Rattle.std.specs.Prelude.{Result}
 use Prim.Native.Nat.{ℕ, ◌<◌}
 use mathlib.Core.{Bool.true, Path.◌≡◌, List.List}
 use native.Mathlib.Omega.{arith}
 use Rattle.sequences.specs.Table.{overwritten}
 use Rattle.interval_graph.specs.Numbers.{numbers_of}
 use Rattle.interval_graph.proofs.Bounds.{numbers_small}
+use Rattle.refusals.specs.declared.refusal.Refusal.{Refusal}
 use Rattle.plan.specs.File.{plan_number, window_count}
 use Rattle.plan.specs.Validation.{AcceptedPlan}
 use Rattle.plan.proofs.Acceptance.{accepted_sound}
 use Rattle.overlap.proofs.InOrder.{interval_order}
 use Rattle.tag_bytes.specs.Fields.{numbers, within_limit}
-use Rattle.tag_bytes.specs.Writing.{after_write}
 use Rattle.tag_bytes.proofs.Fields.{limit_within, length-tag_bytes}
 use Rattle.tag_bytes.proofs.Writing.{tag_bytes_read, written_reads_back, read_tag_bytes, read_accepted}
 use Rattle.tag_bytes.proofs.TagFile.{tag_file_lookup}
@@ -21,6 +21,7 @@ use Rattle.numbering.specs.declared.filling.Built as numbering
 use Rattle.minutes.specs.Tables.{parent_of}
 use Rattle.numbering.specs.Tables.{component_of, depth_of, rank_of, last_rank_of, component_count, numbers_at}
 use Rattle.numbering.specs.Numbering.{after_build}
+use Rattle.numbering.specs.Numbering.{built_as}
 use Rattle.tree.specs.Build.{after_tags}
 use Rattle.tree.proofs.Answered.{build_built}
 use Rattle.demands.specs.EndToEnd.{tag_at}

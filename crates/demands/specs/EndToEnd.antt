@@ -2,7 +2,7 @@
 -- the least number of handovers; the chain from the plan has just that number and, at each step from the later window, the earliest
 -- window that any shortest chain has there; and "no chain" is said exactly when none joins them, from tags and plan alike.
 -- Vocabulary: Answered, tag_at, Demand3, pair_from_plan.
-use Rattle.std.specs.Prelude.{Option, Some, None, Result, Ok, Err, ℕ, suc, ◌<◌, max, length, take}
+use Rattle.std.specs.Prelude.{Option, Some, None, Result, Ok, ℕ, suc, ◌<◌, max, length, take}
 use mathlib.Core.{Path.◌≡◌, Logic.◌↔◌, List.List, List.◌++◌}
 use Rattle.interval_graph.specs.Chain.{first_entry, handovers, Joined, LeastHandovers, EarliestShortest}
 use Rattle.refusals.specs.{declared.refusal.Refusal.Refusal, Question.first_no, Question.position_questions}

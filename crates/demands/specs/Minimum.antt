@@ -1,7 +1,7 @@
 -- Paper 02, Q-2: a handover takes time.
 -- Vocabulary: Overlapping, MinimumOverlaps, AsBefore, MinimumOne, SharesAlike, SameMinimumOne, OldRefused, OutOfOrder, NeedsLength, three,
 -- equals, minimum_cases, MinimumCasesHold.
-use Rattle.std.specs.Prelude.{Ok, false, ℕ, ◌+◌, ◌*◌, ◌≤◌, ◌<◌, length}
+use Rattle.std.specs.Prelude.{Ok, ℕ, ◌+◌, ◌*◌, ◌≤◌, ◌<◌, length}
 use mathlib.Core.{Bool.true, Path.◌≡◌, Logic.◌↔◌, Logic.◌≢◌, List.List, List.[], List.◌∷◌, List.Memᴰ}
 use Rattle.sequences.specs.Search.{passing}
 use Rattle.interval_graph.specs.{Chain.LeastHandovers, Order.IntervalOrder, Walk.chain_of}

@@ -8,17 +8,18 @@ use Rattle.tag_bytes.specs.Fields.{tag_length}
 use Rattle.demands.proofs.Running.{running_refused, running_windows, running_paired}
 use Rattle.demands.proofs.end_to_end.pair_from_plan.Goals as goal
 
-pub returns-in-Refused : goal.returns-in-Refused
-returns-in-Refused c = running_refused _ _ (omega arith) _ _ _ c.tag_file.ensures.value _ c.in-Refused.is
+pub returns-in-Err : goal.returns-in-Err
+returns-in-Err c = running_refused _ _ (omega arith) _ _ _ c.tag_file.ensures.value _ c.in-Err.is
 
 pub slice_bounds-tags-end : goal.slice_bounds-tags-end
-slice_bounds-tags-end c = let p = running_windows _ _ (omega arith) 0 0 _ c.tag_file.ensures.value _ _ _ c.in-Built.is in
-    omega (arith, windows_few p)
+slice_bounds-tags-end c = let p = running_windows _ _ (omega arith) 0 0 _ c.tag_file.ensures.value _ c.in-Ok.is in
+    omega (arith, windows_few p, c.from-end.ensures, c.tag_file.auto.tags)
 
 pub slice_bounds-pair_at-end : goal.slice_bounds-pair_at-end
-slice_bounds-pair_at-end c = let p = running_windows _ _ (omega arith) 0 0 _ c.tag_file.ensures.value _ _ _ c.in-Built.is in
-    sym (length-take-le (tag_length * c.in-Built.windows) c.tag_file.new.tags
-    (omega (arith, windows_few p, c.tag_file.auto.tags)))
+slice_bounds-pair_at-end c = let p = running_windows _ _ (omega arith) 0 0 _ c.tag_file.ensures.value _ c.in-Ok.is in
+    sym (length-take-le (tag_length * c.from-end.result) c.tag_file.new.tags
+    (omega (arith, windows_few p, c.from-end.ensures, c.tag_file.auto.tags)))
 
-pub returns : goal.returns
-returns c = c.pair_at.ensures ∙ running_paired _ _ (omega arith) _ _ _ c.tag_file.ensures.value _ _ _ c.in-Built.is _ _ c.tag_file.ensures.tags_after
+pub returns-in-Ok : goal.returns-in-Ok
+returns-in-Ok c = c.pair_at.ensures ∙ rw c.from-end.ensures
+    (running_paired _ _ (omega arith) _ _ _ c.tag_file.ensures.value _ c.in-Ok.is _ _ c.tag_file.ensures.tags_after)
