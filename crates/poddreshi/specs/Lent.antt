@@ -17,6 +17,6 @@ abbrev pub changed_in : List ℕ → Change → (changed tags : List ℕ) → Re
 changed_in file c changed tags = change_answer_of file c (length changed) (length tags)
 
 -- The margin, in its lent place. A refusal leaves the number as it was.
-unfoldable pub margin_after : Result ℤ Refusal → (before : ℤ) → ℤ
+abbrev pub margin_after : Result ℤ Refusal → (before : ℤ) → ℤ
 margin_after (Ok m) before = m
 margin_after (Err r) before = before

@@ -72,7 +72,7 @@ pub fn poddreshi_chain(file: &[u8], first: usize, second: usize, out: &mut [u16]
     ensures value { result ≡ packed_chain (chain_answer_of file.now first second (length out.old)) }
     ensures out_after { out.new ≡ after_chain (chain_answer_of file.now first second (length out.old)) (chain_between file.now first second) out.old }
 {
-    path::chain(file, first, second, out).map(|entries| Chain(entries)).pack()
+    path::chain(file, first, second, out).map(Chain).pack()
 }
 
 /// The positions that overlap one window, rising, without itself.
@@ -80,7 +80,9 @@ pub fn poddreshi_neighbours(file: &[u8], at: usize, out: &mut [u16]) -> u64
     ensures value { result ≡ packed_neighbours (neighbours_answer_of file.now at (length out.old)) }
     ensures out_after { out.new ≡ after_neighbours (neighbours_answer_of file.now at (length out.old)) (neighbours_of file.now at) out.old }
 {
-    neighbouring::neighbours(file, at, out).map(|count| Neighbours(count)).pack()
+    neighbouring::neighbours(file, at, out)
+        .map(Neighbours)
+        .pack()
 }
 
 /// The margin of two windows, which may be one: the smaller end less the greater offset.
@@ -99,5 +101,5 @@ pub fn poddreshi_margin(file: &[u8], first: usize, second: usize, margin: &mut i
 pub fn poddreshi_same(first: &[u8], second: &[u8]) -> u64
     ensures { result ≡ packed_same (same_answer_of first.now second.now) }
 {
-    sameness::same(first, second).map(|same| Sameness(same)).pack()
+    sameness::same(first, second).map(Sameness).pack()
 }
