@@ -74,11 +74,18 @@ pub fn poddreshi_short_pair(first: &[u8], second: &[u8]) -> u64
     short_tag::short_pair(first, second).pack()
 }
 
-/// The answer from the short tags at two positions of a file of them.
+/// The answer from the short tags at two positions of a file of them, by the call above for the same reason.
+#[tactic(auto, unfolding(tag::specs::Pairing::pair_at_by, tag::specs::Pairing::pair_answer_by, tag_bytes::specs::TagFile::looked_up))]
 pub fn poddreshi_short_pair_at(tags: &[u8], first: usize, second: usize) -> u64
     ensures { result ≡ packed_pair (short_pair_at_answer_of tags.now first second) }
 {
-    short_tag::short_pair_at(tags, first, second).pack()
+    match tag::ask_places::<ShortTag>(tags, first, second) {
+        Ok(()) => poddreshi_short_pair(
+            tag::lookup::<ShortTag>(tags, first),
+            tag::lookup::<ShortTag>(tags, second),
+        ),
+        Err(refusal) => refusal.pack(),
+    }
 }
 
 /// Fills the first eight bytes of `out` with a short tag.
