@@ -10,7 +10,7 @@ use native.Mathlib.Numerals.{add-one}
 use lib.Dec.{leb}
 use borrow.Author.Tests.{le-leb, lt-leb}
 use Rattle.sequences.proofs.Tests.{lt_or_ge}
-use Rattle.sequences.proofs.Search.{least_le, least_unique}
+use Rattle.sequences.proofs.Search.{least_unique}
 use Rattle.interval_graph.specs.Tree.{last, parent, ancestor}
 use Rattle.interval_graph.specs.Walk.{climb}
 use Rattle.interval_graph.proofs.Parent.{parent_le, tree}
@@ -32,11 +32,6 @@ pub record Climbing (n : ℕ) (overlaps : ℕ → ℕ → Bool) (u v at steps : 
   pub behind : (k : ℕ) → k < steps → last n overlaps u < ancestor overlaps k v
 
 module _ (n : ℕ) (overlaps : ℕ → ℕ → Bool) (u v : ℕ) where
-  -- There are never more steps than windows up to v.
-  pub climb_few : climb n overlaps u v ≤ suc v
-  unfolding climb
-  climb_few = least_le (λ j. leb (ancestor overlaps j v) (last n overlaps u)) (suc v)
-
   pub climbing_start : Climbing n overlaps u v v 0
   climbing_start = record { stands = sym (ancestor_zero (tree overlaps) v); fell = omega arith; behind = λ k h. absurd (omega arith) }
 

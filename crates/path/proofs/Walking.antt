@@ -1,5 +1,4 @@
--- The chain between two windows by the number of windows that stand on it before the earlier one; and the answer after each
--- test of the call, over plain numbers and lists.
+-- The chain between two windows by the number of windows that stand on it before the earlier one; and the walk being written.
 -- Vocabulary: stands, walking, between.
 -- Assumes nothing.
 use Prim.Native.Nat.{ℕ, suc, ◌+◌, ◌≤◌, ◌<◌, min, max}

@@ -313,9 +313,6 @@ module _ (file : List ℕ) (ok : AcceptedPlan file) where
           unfolding last_of
           apart = seen_apart
 
-          pub behind_window : suc (last_of file u) < window_count file
-          behind_window = omega (arith, seen_apart, s.high, s.window)
-
           pub behind_spine : Spine (window_count file) (overlaps file) (suc (last_of file u))
           unfolding last_of
           behind_spine = next_spine order at window steps deep last whole top s.topped u low apart near

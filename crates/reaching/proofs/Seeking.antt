@@ -31,9 +31,6 @@ module _ (file : List ℕ) (ok : AcceptedPlan file) where
   own_last u = last_ge (interval_order file ok) u
 
   module _ (from top : ℕ) (window : top < window_count file) where
-    pub seeking_start : from ≤ top → Seeking file from top from
-    seeking_start h = record { low = omega arith; high = h; before = λ w l g. absurd (omega arith) }
-
     module _ (at : ℕ) (s : Seeking file from top at) where
       module _ (within : at < top) where
         pub seeking_turn : reached file at top ≡ true → Seeking file from top (at + 1)
@@ -50,11 +47,6 @@ module _ (file : List ℕ) (ok : AcceptedPlan file) where
         pub seeking_found : reached file at top ≡ false → FirstApart file from top at
         seeking_found t =
             record { low = s.low; high = s.high; apart = λ h. behind_last file ok at (omega arith) top window t; before = s.before }
-
-      pub seeking_none : top ≤ at → FirstApart file from top top
-      seeking_none h =
-          let all : at ≡ top = omega (arith, s.high) in
-          record { low = rw all at s.low; high = omega arith; apart = λ g. absurd (omega arith); before = rw all at s.before }
 
   module _ (at to : ℕ) (window : to < window_count file) (far : last_of file at < to) where
     pub at_window : at < to
@@ -74,6 +66,3 @@ module _ (file : List ℕ) (ok : AcceptedPlan file) where
         passing_found t =
             let past = behind_last file ok at (omega (arith, s.low)) next (omega arith) t in
             omega (arith, s.near)
-
-      pub passing_ends : to ≤ next → to ≡ suc (last_of file at)
-      passing_ends h = omega (arith, s.near)
