@@ -10,6 +10,9 @@ use crate::rule::Ruled;
 use refusals::{Question, Refusal};
 use tag_bytes::{Label, lookup};
 
+/// What two tags answer.
+// An enum of its own, and no `Result<Option<u16>, Refusal>`: the project's rules name this form, with the `let .. else` on a reading in `pair`, and
+// `Demand3` speaks of its variants.
 #[derive(Clone, Copy, Debug, PartialEq, Eq)]
 pub enum PairAnswer {
     Handovers(u16),
