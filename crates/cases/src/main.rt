@@ -45,7 +45,8 @@ fn try_lines(rt: &impl Print, text: &[u8]) -> io::Result<()> {
 }
 
 // The front of a buffer, filled until the input ends or no room is left. A read that fails ends the input too, and what came before it
-// counts. Of std `read_exact` does not say how much came, `read_to_end` takes memory, and `io::copy` reads on after an interruption.
+// counts. Of std `read_exact` does not say how much came, `read_to_end` takes memory, and `io::copy` reads on after an interruption. (It
+// stands in both programs: a crate for ten lines is no plainer.)
 fn read_full<'a>(from: &mut impl Read, buffer: &'a mut [u8]) -> &'a [u8]
     ensures { length result.now ≤ length buffer.old }
 {

@@ -56,6 +56,6 @@ pub(crate) fn ask_change(
     refusals::ask(Question::HasPlace, has_place(edit, plan.len()))?;
     refusals::ask(Question::HasNewNumber, change.plan != plan.number())?;
     ask_edit(plan, edit)?;
-    let windows = count_after(edit, plan.len() as u16);
+    let windows = count_after(edit, plan.count());
     refusals::ask(Question::HasRoom, has_room(windows, changed, tags))
 }

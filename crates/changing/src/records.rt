@@ -1,7 +1,7 @@
 // A change of a plan, as its maker hands it in.
 use plan::Window;
 
-/// What is to be done.
+/// What is to be done: the project's rules name this form.
 #[derive(Clone, Copy, Debug, PartialEq, Eq)]
 pub enum Edit {
     /// Add this window.

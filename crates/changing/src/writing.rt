@@ -32,7 +32,7 @@ fn write_with(plan: &Plan, number: u16, window: Window, changed: &mut [u8]) -> u
     ensures changed_after { changed.new ≡ overwritten changed.old (changed_file (bytes_of plan.now) (adding number window)) }
 {
     let file = plan.bytes();
-    let windows = plan.len() as u16;
+    let windows = plan.count();
     plan::write_header(number, windows + 1, plan.minimum(), changed);
     let place = plan::window_place(place_of(plan, window.offset));
     copy_part(file, HEADER_LENGTH, place, changed, HEADER_LENGTH);
@@ -50,7 +50,7 @@ fn write_without(plan: &Plan, number: u16, at: usize, changed: &mut [u8]) -> usi
     ensures changed_after { changed.new ≡ overwritten changed.old (changed_file (bytes_of plan.now) (withdrawing number at)) }
 {
     let file = plan.bytes();
-    let windows = plan.len() as u16;
+    let windows = plan.count();
     plan::write_header(number, windows - 1, plan.minimum(), changed);
     let place = plan::window_place(at as u16);
     copy_part(file, HEADER_LENGTH, place, changed, HEADER_LENGTH);

@@ -72,7 +72,7 @@ module _ (file : List ℕ) (room : ℕ) (enough : tag_length * greatest_count �
           let p = running_windows in
           let filled : tags ≡ overwritten before (tag_file (numbers_at file) built.windows) = rw e at after in
           let front : take (tag_length * built.windows) tags ≡ tag_file (numbers_at file) built.windows =
-              rw (filled, ← length-tag_file (numbers_at file) built.windows) (take_overwritten before (tag_file (numbers_at file) built.windows)) in
+          rw (filled, ← length-tag_file (numbers_at file) built.windows) (take_overwritten before (tag_file (numbers_at file) built.windows)) in
           rw front (pair_at_tag_file (numbers_at file) built.windows first second
           ∙ (rw p.counted (plan_accepted file _ PairAnswer.Refused _ (validate_answer_of file) refl _ _ (accepted_validated file p.accepted))))
 

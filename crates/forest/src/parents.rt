@@ -4,7 +4,8 @@ ghost use Rattle.forest.specs.Parents.{parent_in, covered};
 
 use plan::GREATEST_COUNT;
 
-// The entry where it stands before its position; an entry that does not is read as that of a root.
+// The entry where it stands before its position; an entry that does not is read as that of a root. A root's is its own position, as in the table,
+// and no Option: one comparison tells it.
 #[tactic(auto, unfolding(crate::specs::Parents::parent_in))]
 pub(crate) fn parent_at(parents: &[u16], position: usize) -> usize
     requires { position < length parents.now }

@@ -14,7 +14,8 @@ use std::io::{self, Read};
 use tag_bytes::{Label, Tag};
 
 // The front of a buffer, filled until the input ends or no room is left. A read that fails ends the input too, and what came before it
-// counts. Of std `read_exact` does not say how much came, `read_to_end` takes memory, and `io::copy` reads on after an interruption.
+// counts. Of std `read_exact` does not say how much came, `read_to_end` takes memory, and `io::copy` reads on after an interruption. (It
+// stands in both programs: a crate for ten lines is no plainer.)
 fn read_full<'a>(from: &mut impl Read, buffer: &'a mut [u8]) -> &'a [u8]
     ensures { length result.now ≤ length buffer.old }
 {

@@ -45,5 +45,5 @@ pub fn even_parents(file: &[u8], room: usize, parents: &mut [u16]) -> Result<u16
     ask_even(&plan)?;
     refusals::ask(Question::HasRoom, plan.len() <= room.min(parents.len()))?;
     find_parents(&plan, parents);
-    Ok(plan.len() as u16)
+    Ok(plan.count())
 }

@@ -79,6 +79,8 @@ pub(crate) fn fill_lasts(plan: &Plan, lasts: &mut [u16])
     find_lasts(plan, &offsets, lasts);
 }
 
+// The twin of `parent_table` but for the pass. One function for both would take the pass as a closure and speak of what it may be called with; it
+// would be no shorter than these four lines.
 /// The last table by itself: question 8 after the plan's. Answers with the number of windows.
 #[tactic(auto, using(refusals::proofs::Questions::in_turn), unfolding(crate::specs::SingleTable::table_questions, crate::specs::SingleTable::table_answer_of, crate::specs::SingleTable::after_table))]
 pub fn last_table(file: &[u8], lasts: &mut [u16]) -> Result<u16, Refusal>
@@ -88,5 +90,5 @@ pub fn last_table(file: &[u8], lasts: &mut [u16]) -> Result<u16, Refusal>
     let plan = Plan::new(file)?;
     refusals::ask(Question::HasRoom, plan.len() <= lasts.len())?;
     fill_lasts(&plan, lasts);
-    Ok(plan.len() as u16)
+    Ok(plan.count())
 }

@@ -18,8 +18,8 @@ struct Finger {
     bound: u32,
 }
 
-// The first position from the finger's on whose bound lies past the offset, or `to` where there is none before it. A `while`, since the
-// finger stops where it finds one.
+// The first position from the finger's on whose bound lies past the offset, or `to` where there is none before it. A `while`: a `for`
+// with a `return` would form the bound of the finger's own position again, for each window that it waits for.
 fn first_past(plan: &Plan, offset: u32, finger: Finger, to: usize) -> Finger
     requires bound_value { finger.bound ≡ bound_at (bytes_of plan.now) finger.at }
     requires at_le_to { finger.at ≤ to }
@@ -61,5 +61,5 @@ pub fn parent_table(file: &[u8], parents: &mut [u16]) -> Result<u16, Refusal>
     let plan = Plan::new(file)?;
     refusals::ask(Question::HasRoom, plan.len() <= parents.len())?;
     find_parents(&plan, parents);
-    Ok(plan.len() as u16)
+    Ok(plan.count())
 }

@@ -26,5 +26,5 @@ pub fn fill_tables(
     refusals::ask(Question::HasRoom, plan.len() <= entries)?;
     find_parents(&plan, parents);
     fill_lasts(&plan, lasts);
-    Ok(plan.len() as u16)
+    Ok(plan.count())
 }

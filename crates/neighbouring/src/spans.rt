@@ -67,6 +67,7 @@ impl<'a> Span<'a> {
         ensures value { result ≡ length (passing (overlaps (bytes_of self.now.plan) self.now.at) 0 self.now.at) }
         ensures out_after { out.new ≡ overwritten out.old (passing (overlaps (bytes_of self.now.plan) self.now.at) 0 self.now.at) }
     {
+        // Counted by hand: an adapter that writes below a filter says nothing of the slice afterwards.
         let mut found = 0;
         for position in 0..self.at {
             if self.meets(position) {
@@ -89,7 +90,8 @@ impl<'a> Span<'a> {
 }
 
 // The last window that the one at a position overlaps, or that one where it overlaps none behind it. Offsets do not fall, so half of
-// what is left is passed over at a time. No method of the library halves a range of positions whose entries are read from a file.
+// what is left is passed over at a time. By the library's `partition_point` the
+// file would first be cut into parts of eight bytes, and a closure would read each anew: no plainer than these two bounds.
 #[tactic(auto, using(plan::proofs::Acceptance::few_windows))]
 fn last_at(plan: &Plan, at: usize) -> usize
     requires { at < window_count (bytes_of plan.now) }

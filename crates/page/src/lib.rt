@@ -5,4 +5,4 @@ mod query;
 mod records;
 
 pub use query::{Query, page};
-pub use records::{Record, ask, fill};
+pub use records::{Record, ask, fill, to_fill};

@@ -6,7 +6,7 @@ use crate::records::{Record, fill};
 use refusals::Refusal;
 use tag::{PairAnswer, Tag};
 
-/// A record with the answer itself.
+/// A record with the answer itself. (C's own record is another type, laid out for C, with a number in place of the answer.)
 #[derive(Clone, Copy, Debug, PartialEq, Eq)]
 pub struct Query {
     pub first: usize,

@@ -1,7 +1,7 @@
 // A page of any type of record.
 ghost use Rattle.std.specs.Prelude.{◌≡◌, ◌%◌, List, ℕ, length, map};
 ghost use Rattle.tag_bytes.specs.Fields.{tag_length};
-ghost use Rattle.page.specs.Page.{page_answer_of, if_filled};
+ghost use Rattle.page.specs.Page.{page_answer_of, if_filled, to_fill};
 
 use refusals::{Question, Refusal};
 use tag::{Label, Tag};
@@ -21,6 +21,16 @@ pub fn ask(tags: &[u8]) -> Result<(), Refusal>
     ensures { result ≡ page_answer_of tags.now }
 {
     refusals::ask(Question::HasItsBytes, tags.len() % Tag::LENGTH == 0)
+}
+
+/// How many of so many records a page fills: all, or none where it is refused.
+pub fn to_fill(tags: &[u8], records: usize) -> usize
+    ensures { result ≡ to_fill (page_answer_of tags.now) records }
+{
+    match ask(tags) {
+        Ok(()) => records,
+        Err(_) => 0,
+    }
 }
 
 /// Fills every record of a page. A refused page is left as it was.

@@ -1,6 +1,6 @@
 // The walk up from the later window, from parent to parent, until a window that the earlier one overlaps, or one that does
-// not stand behind it. (The two are handed on as positions with their bounds: a type for the pair would be made in one place and taken
-// apart in each function, and save no line.)
+// not stand behind it. (The two go on as positions, with a `requires` for each: eight lines in four functions. A struct of the plan,
+// its parents and the two, with two ghost fields and a function that asks for the same and makes it, has as many.)
 ghost use Rattle.std.specs.Prelude.{◌≡◌, ◌<◌, length};
 ghost use Rattle.sequences.specs.Table.{overwritten};
 ghost use Rattle.plan.specs.File.{window_count};
@@ -21,8 +21,9 @@ fn climb_steps(tree: &Rooted, earlier: usize, later: usize) -> Option<usize>
     let end = plan.window(earlier).unwrap().end();
     let mut at = later;
     let mut steps = 0;
-    // A window that shares less than the minimum with the earlier one stands behind its last, and no other does. (A `while`: no index is
-    // counted, and the test stands in one place.)
+    // A window that shares less than the minimum with the earlier one stands behind its last, and no other does. (A `while`: by
+    // `iter::successors` and `position` the step to the parent and the test would stand in two closures, and of each it would have to be shown
+    // that its position is a window's.)
     while !overlap::reaches(minimum, end, plan.window(at).unwrap().offset) {
         at = tree.parent(at)?;
         steps += 1;

@@ -1,4 +1,4 @@
--- What is known of an accepted_as plan: each of questions 1 to 6 and 14 is answered "yes", at every window. And the other way round.
+-- What is known of an accepted plan: each of questions 1 to 6 and 14 is answered "yes", at every window. And the other way round.
 -- Vocabulary: Sound, accepted_sound, sound_accepted, accepted_validated, validated_accepted, offsets_sorted.
 -- Assumes nothing.
 use Prim.Native.Nat.{ℕ, zero, suc, ◌+◌, ◌-◌, ◌≤◌, ◌<◌}

@@ -25,7 +25,7 @@ plan_first file more refused accepted =
     let whole = accepted_as (plan_number file) (window_count file) in first_append (plan_questions file) more refused accepted
     ∙ sym (first_map (λ v. after_validation v refused (first_no more refused accepted)) (plan_questions file) Err whole)
 
--- Of an accepted_as plan the others alone decide.
+-- Of an accepted plan the others alone decide.
 pub plan_passed : {A : Type 0} (file : List ℕ) (more : List Question) (refused : Refusal → A) (accepted : A) → AcceptedPlan file →
     first_no (plan_questions file ++ more) refused accepted ≡ first_no more refused accepted
 plan_passed file more refused accepted ok = plan_first file more refused accepted ∙ rw (accepted_validated file ok)
@@ -47,11 +47,11 @@ accepted_numbers file plan windows e =
     ⊎_elim (λ same. (ap said_plan (e ∙ same), ap said_windows (e ∙ same))) (λ refusal. let z : ◌≡◌ {A = ℕ} 0 1 = cc in absurd (omega arith))
     (first_cases (plan_questions file) Err (accepted_as (plan_number file) (window_count file)))
 
--- So the file is that of an accepted_as plan.
+-- So the file is that of an accepted plan.
 pub accepted_plan : (file : List ℕ) (plan windows : ℕ) → accepted_as plan windows ≡ validate_answer_of file → AcceptedPlan file
 accepted_plan file plan windows e = let numbers = accepted_numbers file plan windows e in validated_accepted file (sym e ∙ cc)
 
--- Further questions that an accepted_as plan answers alike can stand for one another.
+-- Further questions that an accepted plan answers alike can stand for one another.
 pub plan_alike : {A : Type 0} (file : List ℕ) (more other : List Question) (refused : Refusal → A) (accepted : A) →
     (AcceptedPlan file → first_no more refused accepted ≡ first_no other refused accepted) →
     first_no (plan_questions file ++ more) refused accepted ≡ first_no (plan_questions file ++ other) refused accepted

@@ -1,4 +1,4 @@
--- What is known of an accepted_as plan's file by the number of its windows, and that a validation hands it on; and where each of its
+-- What is known of an accepted plan's file by the number of its windows, and that a validation hands it on; and where each of its
 -- windows lies, which whoever reads windows cites.
 -- Vocabulary: windows_few, validated_windows, window_within, minimum_within, needed_least.
 -- Assumes nothing.
@@ -16,7 +16,7 @@ use Rattle.plan.specs.AcceptedWindows.{AcceptedWindows}
 use Rattle.plan.proofs.{Acceptance.accepted_sound, Calls.accepted_numbers, Calls.accepted_plan}
 
 module _ {file : List ℕ} {windows : ℕ} (p : AcceptedWindows file windows) where
-  -- An accepted_as plan has at most so many windows, so tables of that many entries hold them.
+  -- An accepted plan has at most so many windows, so tables of that many entries hold them.
   pub windows_few : windows ≤ greatest_count
   windows_few = omega (arith, p.counted, (accepted_sound file p.accepted).few)
 
@@ -28,7 +28,7 @@ module _ (file : List ℕ) (answer : Result Accepted Refusal) (validated : answe
         counted = (accepted_numbers file plan windows (sym e ∙ validated)).1;
       }
 
--- A window of an accepted_as plan.
+-- A window of an accepted plan.
 module _ (file : List ℕ) (ok : AcceptedPlan file) (v : ℕ) (h : v < window_count file) where
   -- Its part lies within the file.
   pub window_within : (window_place v + window_length ≤ length file) × (v < greatest_count)

@@ -177,7 +177,7 @@ file_asked file n minimum counted read long =
     rw (counted, read, le-leb header_length (length file) (omega arith), eq-eqb (length file) (file_length n) long)
     (ap (λ t. leb n greatest_count && t) (and_true_right (minimum_passes minimum) true refl))
 
--- The file is that of an accepted_as plan exactly if it has few enough windows and a minimum that passes, and they pass.
+-- The file is that of an accepted plan exactly if it has few enough windows and a minimum that passes, and they pass.
 pub accepted-file_of : (plan minimum : ℕ) (windows : List Window) (d : Window) →
     all_yes (plan_questions (file_of plan minimum windows))
     ≡ ((leb (length windows) greatest_count && minimum_passes minimum) && windows_pass minimum 0 windows)

@@ -67,6 +67,14 @@ impl<'a> Plan<'a> {
         usize::from(self.len)
     }
 
+    /// How many windows there are, in the 16 bits that an answer or a table's entry has for it. (Every position and count fits them: `as u16` is
+    /// proved to lose nothing wherever one is narrowed, and there is no `From` that narrows.)
+    pub fn count(&self) -> u16
+        ensures { result ≡ window_count (bytes_of self.now) }
+    {
+        self.len
+    }
+
     /// How much two windows must share to overlap.
     pub fn minimum(&self) -> u32
         ensures { result ≡ minimum_handover (bytes_of self.now) }
@@ -75,6 +83,8 @@ impl<'a> Plan<'a> {
     }
 
     /// The window at a position, where there is one.
+    // A pass that knows its position asks of it to be below `len`, in a `requires` of its own: each has another position, and a type for one
+    // would save none of them a line.
     #[tactic(auto, using(crate::proofs::Acceptance::whole_file, crate::proofs::Acceptance::few_windows))]
     pub fn window(&self, at: usize) -> Option<Window>
         ensures { result ≡ window_in (bytes_of self.now) at }

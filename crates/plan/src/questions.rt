@@ -20,6 +20,6 @@ pub fn validate(file: &[u8]) -> Result<Accepted, Refusal>
     let plan = Plan::new(file)?;
     Ok(Accepted {
         plan: plan.number(),
-        windows: plan.len() as u16,
+        windows: plan.count(),
     })
 }

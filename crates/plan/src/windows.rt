@@ -80,7 +80,8 @@ pub fn window_place(position: u16) -> usize
     HEADER_LENGTH + WINDOW_LENGTH * usize::from(position)
 }
 
-/// The window at a position. A byte past the end of the file is read as 0, as in its part.
+/// The window at a position of any file. A byte past the end of the file is read as 0, as in its part. (Of an accepted plan `Plan::window` reads it,
+/// and tests no byte.)
 #[tactic(auto, using(crate::proofs::Reading::window_read))]
 pub fn window_at(file: &[u8], position: u16) -> Window
     ensures { result ≡ window_at file.now position }

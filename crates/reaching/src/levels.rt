@@ -1,5 +1,5 @@
 // A component of a plan with its parents: its levels stand one behind the other, since a later window is at least as deep. (Each function
-// asks of a position that it is a window's; they hand on different ones, so a type for such a position would save no line.)
+// of this crate asks of a position that it is a window's; they hand on different ones, so a type for such a position would save no line.)
 ghost use Rattle.std.specs.Prelude.{◌≡◌, ◌≤◌, ◌<◌};
 ghost use Rattle.interval_graph.specs.Tree.{root};
 ghost use Rattle.plan.specs.File.{window_count};

@@ -7,7 +7,8 @@ ghost use Rattle.reaching.specs.Passes.{FirstApart};
 
 use minutes::Rooted;
 
-// The first window from a position on, before another, that does not overlap that other; the other itself where all do.
+// The first window from a position on, before another, that does not overlap that other; the other itself where all do. (No Option: `FirstApart`
+// and the law `seeking_found` say it so.)
 pub(crate) fn first_apart(tree: &Rooted, from: usize, top: usize) -> usize
     requires from_le_top { from ≤ top }
     requires top_bound { top < window_count (plan_of tree.now) }

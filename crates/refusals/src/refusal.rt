@@ -6,7 +6,8 @@ use std::error::Error;
 use std::fmt;
 
 /// A "no" to a question: its number, which input is at fault (0 the first, 1 the second), and the position of the window being read, or 0.
-// The number is no `Question`: `by` is promised for every number, and 0 stands for no refusal where `Tag::refusal` has none to give.
+// The number is no `Question`: `by` is promised for every number, and 0 stands for no refusal where `Tag::refusal` has none to give. Nor is the
+// input an enum or the position an Option: `from` and `about` are promised for every number.
 #[derive(Clone, Copy, Debug, PartialEq, Eq)]
 pub struct Refusal {
     pub number: u8,

@@ -10,6 +10,9 @@ use crate::rule::Ruled;
 use refusals::{Question, Refusal};
 use tag_bytes::{Label, lookup};
 
+/// What two tags answer.
+// An enum of its own, and no `Result<Option<u16>, Refusal>`: the project's rules name this form, with the `let .. else` on a reading in `pair`, and
+// `Demand3` speaks of its variants.
 #[derive(Clone, Copy, Debug, PartialEq, Eq)]
 pub enum PairAnswer {
     Handovers(u16),
@@ -38,8 +41,6 @@ fn compare<L: Ruled>(a: L, b: L) -> Result<PairAnswer, Refusal>
 }
 
 /// The answer from the bytes of two tags. The second is not read where the first is refused.
-// Whoever calls it takes it in, so that an answer is packed as it is formed: a short pair has twenty instructions less.
-#[inline(always)]
 #[tactic(auto, unfolding(crate::specs::Pairing::pair_answer_by))]
 pub fn pair<L: Ruled>(first: &[u8], second: &[u8]) -> PairAnswer
     ensures { result ≡ pair_answer_by L.LENGTH L.between first.now second.now (L.numbers (L.label_of first.now)) (L.numbers (L.label_of second.now)) }

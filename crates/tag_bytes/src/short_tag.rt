@@ -15,7 +15,7 @@ pub struct ShortTag {
 }
 
 impl ShortTag {
-    // The tag with these numbers and the rank of a last.
+    // The tag with these numbers and the rank of a last. (No `From`: it takes two values.)
     pub(crate) fn with_last(self, last: u16) -> Tag
         ensures { result ≡ with_last self last }
     {

@@ -8,7 +8,8 @@ ghost use Rattle.tree.specs.Tagging.{numbers_in, Numbered};
 use tag_bytes::{Label, Tag};
 
 // Short tags are written by a twin of this, in `even_tags`: from three tables, and not from four. One function for both would be public, and
-// would have to take a closure and require of it that it may be called, where every public call here takes whatever it is given.
+// would have to take a closure and require of it that it may be called, where a public call here has no `requires` and takes whatever it is
+// given. (The tables are handed on with how many of their entries count: they are longer, as lent or as scratch.)
 pub(crate) fn write_tags(
     windows: usize,
     plan: u16,

@@ -9,6 +9,9 @@ fn byte_at(bytes: &[u8], at: usize) -> u8
     bytes.get(at).copied().unwrap_or(0)
 }
 
+// Two and four bytes are read and written by calls of their own: the library has no trait of numbers with `from_le_bytes` and `to_le_bytes` to be
+// generic over, and four bytes that are all there are read by a way of their own.
+
 /// The two-byte number at `at`.
 #[tactic(auto, unfolding(crate::specs::LittleEndian::le16))]
 pub fn read_u16(bytes: &[u8], at: usize) -> u16

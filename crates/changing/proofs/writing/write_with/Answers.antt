@@ -11,5 +11,5 @@ returns-clause-changed_after c =
     let ok : AcceptedPlan file = rw same c.args.plan.now.accepted in
     rw (← same) (with_written file ok (λ i. search rules) c.args.number c.args.changed.now c.args.window _
     (omega (arith, rw (← same) at c.place_of.ensures, place_added file c.args.window)) (rw (← same) at c.requires.fits) _ _
-    (c.len-windows.ensures.counted ∙ ap window_count (sym same)) (c.minimum.ensures ∙ ap minimum_handover (sym same)) _ _ _ _
+    (c.count-windows.ensures ∙ ap window_count (sym same)) (c.minimum.ensures ∙ ap minimum_handover (sym same)) _ _ _ _
     c.write_header.ensures c.copy_part.ensures c.write.ensures c.copy_part-2.ensures)

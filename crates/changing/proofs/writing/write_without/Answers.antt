@@ -10,5 +10,5 @@ returns-clause-changed_after c =
     let same = c.bytes-file.ensures in
     let ok : AcceptedPlan file = rw same c.args.plan.now.accepted in
     rw (← same) (without_written file ok (λ i. search rules) c.args.number c.args.changed.now c.args.at (rw (← same) at c.requires.there) _
-    c.window_place-place.ensures (rw (← same) at c.requires.fits) _ _ (c.len-windows.ensures.counted ∙ ap window_count (sym same))
+    c.window_place-place.ensures (rw (← same) at c.requires.fits) _ _ (c.count-windows.ensures ∙ ap window_count (sym same))
     (c.minimum.ensures ∙ ap minimum_handover (sym same)) _ _ _ c.write_header.ensures c.copy_part.ensures c.copy_part-2.ensures)
