@@ -13,21 +13,23 @@ use plan::{GREATEST_COUNT, Plan};
 #[derive(Clone, Copy, Debug)]
 pub struct Rooted<'a> {
     plan: Plan<'a>,
-    parents: [u16; GREATEST_COUNT],
-    ghost held: { Holds parents (parent_of plan.file.now) (window_count plan.file.now) },
+    parents: &'a [u16],
+    ghost held: { Holds parents.now (parent_of plan.file.now) (window_count plan.file.now) },
 }
 
 impl<'a> Rooted<'a> {
     ghost use Rattle.minutes.specs.Rooted.{plan_of, above};
 
-    /// Finds the parents of the plan's windows.
+    /// Finds the parents of the plan's windows, in a table that is lent for it and so is not copied.
     #[tactic(auto, using(plan::proofs::Acceptance::few_windows))]
-    pub fn new(plan: Plan<'a>) -> Self
+    pub fn new(plan: Plan<'a>, table: &'a mut [u16; GREATEST_COUNT]) -> Self
         ensures { plan_of result ≡ bytes_of plan.entry }
     {
-        let mut parents = [0; GREATEST_COUNT];
-        find_parents(&plan, &mut parents);
-        Rooted { plan, parents }
+        find_parents(&plan, table);
+        Rooted {
+            plan,
+            parents: table,
+        }
     }
 
     /// The plan.
@@ -46,10 +48,10 @@ impl<'a> Rooted<'a> {
     }
 
     /// The parents of all windows as a table, for walks that need not ask whether there is one: a root's entry is its own position.
-    pub fn parents(&self) -> &[u16]
+    pub fn parents(&self) -> &'a [u16]
         ensures { Holds result.now (parent_of (plan_of self.now)) (window_count (plan_of self.now)) }
     {
-        &self.parents
+        self.parents
     }
 
     /// The parent of a window, where it has one.

@@ -7,7 +7,7 @@ ghost use Rattle.path.specs.Steps.{chain_rest};
 
 use crate::walk::{steps_before, write_walk};
 use minutes::Rooted;
-use plan::Plan;
+use plan::{GREATEST_COUNT, Plan};
 use refusals::{Question, Refusal};
 
 // The chain between two windows, the earlier and the later, which may be one.
@@ -59,5 +59,6 @@ pub fn chain(
     ensures out_after { out.new ≡ after_chain result (chain_between file.now first second) out.old }
 {
     let plan = Plan::new(file)?;
-    chain_in(&Rooted::new(plan), first, second, out)
+    let mut parents = [0; GREATEST_COUNT];
+    chain_in(&Rooted::new(plan, &mut parents), first, second, out)
 }

@@ -10,7 +10,7 @@ use crate::answers::Reach;
 use crate::levels::{Levels, levels_from, root_of, top_of};
 use crate::overlaps::{behind_last, first_apart};
 use minutes::Rooted;
-use plan::Plan;
+use plan::{GREATEST_COUNT, Plan};
 use refusals::{Question, Refusal};
 
 // A component from its root, and the ancestor of its last window that is on the level below the root.
@@ -63,5 +63,6 @@ pub fn reach(file: &[u8], at: usize) -> Result<Reach, Refusal>
 {
     let plan = Plan::new(file)?;
     refusals::ask(Question::IsThere, at < plan.len())?;
-    Ok(farthest(&Rooted::new(plan), at))
+    let mut parents = [0; GREATEST_COUNT];
+    Ok(farthest(&Rooted::new(plan, &mut parents), at))
 }

@@ -5,4 +5,4 @@ use Rattle.reaching.proofs.Levelling.{Levelling}
 use Rattle.reaching.proofs.levels.levels_from.Given as goal
 
 abbrev pub invariant-loop-next : goal.invariant-loop-next
-invariant-loop-next l = (l.next ≡ l.last + 1) × Levelling l.tree.parents (window_count (plan_of l.tree)) l.from l.steps l.first l.last
+invariant-loop-next l = (l.next ≡ l.last + 1) × Levelling l.tree.parents.now (window_count (plan_of l.tree)) l.from l.steps l.first l.last
