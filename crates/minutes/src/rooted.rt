@@ -18,12 +18,13 @@ pub struct Rooted<'a> {
 }
 
 impl<'a> Rooted<'a> {
-    ghost use Rattle.minutes.specs.Rooted.{plan_of, above};
+    ghost use Rattle.minutes.specs.Rooted.{plan_of, table_of, with_parents, above};
 
-    /// Finds the parents of the plan's windows, in a table that is lent for it and so is not copied.
+    /// Finds the parents of the plan's windows, in a table that is lent for it and so is not copied. What lies past them there stays.
     #[tactic(auto, using(plan::proofs::Acceptance::few_windows))]
     pub fn new(plan: Plan<'a>, table: &'a mut [u16; GREATEST_COUNT]) -> Self
-        ensures { plan_of result ≡ bytes_of plan.entry }
+        ensures same_plan { plan_of result ≡ bytes_of plan.entry }
+        ensures table_after { table_of result ≡ with_parents (bytes_of plan.entry) table.old }
     {
         find_parents(&plan, table);
         Rooted {

@@ -6,4 +6,4 @@ use Rattle.minutes.proofs.rooted.Rooted.new.Goals as goal
 
 pub invariant_of-result : goal.invariant_of-result
 invariant_of-result c =
-    record { held = overwritten_holds _ _ c.args.table.now _ (omega (arith, few_windows _ c.args.plan.accepted, c.find_parents.auto.parents)) c.find_parents.ensures }
+    record { held = overwritten_holds _ _ _ _ (omega (arith, few_windows _ c.args.plan.accepted, c.find_parents.auto.parents)) c.find_parents.ensures }
