@@ -2,16 +2,23 @@
 --     for record in records { *record = record.answered(tags); }
 -- Before each turn the first i records are replaced and the others as they were (`up_to`). All that is known of the callees is what they give
 -- back: `walk` takes a turn, and `meets` says what the loop leaves behind.
--- Vocabulary: walk, meets.
+-- Where a part of the records is lent to the loop, those that are to be filled, `in_part` says what the whole then is.
+-- Vocabulary: walk, meets, filled_whole, in_part.
 -- Assumes nothing.
 use Prim.Native.Nat.{ℕ, ◌+◌, ◌%◌, ◌<◌, ◌≤◌}
-use mathlib.Core.{Path.◌≡◌, Path.◌∙◌, List.List, List.map}
+use mathlib.Core.{Path.◌≡◌, Path.refl, Path.subst, Path.◌∙◌, List.List, List.map, Logic.⊎_elim}
 use native.Mathlib.Numerals.{add-one}
 use native.Mathlib.Omega.{arith}
-use lib.ListN.{length, get_or, set}
+use lib.ListN.{length, get_or, set, take, drop}
+use lib.Seq.{drop-length}
+use mathlib.Core.List.{append-nil}
+use Rattle.std.specs.Prelude.{Result, Ok, Err, ◌++◌}
+use Rattle.std.proofs.Math.Seq.{take-length}
+use Rattle.sequences.proofs.Tests.{equal_or_not}
+use Rattle.refusals.specs.declared.refusal.Refusal.{Refusal}
 use Rattle.tag_bytes.specs.Fields.{tag_length}
 use Rattle.page.specs.Page.{page_answer_of, if_filled, to_fill}
-use Rattle.page.proofs.Filled.{up_to, up_to_more, page_filled}
+use Rattle.page.proofs.Filled.{up_to, up_to_all, up_to_more, page_9, page_filled}
 
 module _ {A : Type 0} (f : A → A) (before now : List A) (i : ℕ) (so_far : now ≡ up_to f i before) where
   -- The record at i is replaced by what is made of the one that stands there.
@@ -24,3 +31,18 @@ module _ {A : Type 0} (f : A → A) (before now : List A) (i : ℕ) (so_far : no
   meets tags g alike count counted within done =
       let all : i ≡ to_fill (page_answer_of tags) (length before) = omega (arith, counted) in
       so_far ∙ rw all (page_filled tags f g alike before)
+
+-- Only where the file passes 9 is there a record to fill.
+pub filled_whole : (tags : List ℕ) (i records : ℕ) → i < to_fill (page_answer_of tags) records → length tags % tag_length ≡ 0
+filled_whole tags i records = ⊎_elim
+    (λ whole less. whole)
+    (λ other. subst (λ (a : Result (Unit {0}) Refusal). i < to_fill a records → length tags % tag_length ≡ 0) (page_9 tags other)
+    (λ less. absurd (omega (arith, less))))
+    (equal_or_not (length tags % tag_length) 0)
+
+-- The records that are to be filled replaced each by f of itself, and behind them those that are not: the page afterwards.
+pub in_part : {A : Type 0} (f : A → A) (l : List A) (answer : Result (Unit {0}) Refusal) →
+    up_to f (length (take (to_fill answer (length l)) l)) (take (to_fill answer (length l)) l) ++ drop (to_fill answer (length l)) l
+    ≡ if_filled answer (map f l) l
+in_part f l (Ok tt) = rw (take-length l, drop-length l, up_to_all f l) (append-nil (map f l))
+in_part f l (Err r) = rw (up_to_all f (take 0 l)) refl

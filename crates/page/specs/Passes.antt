@@ -1,4 +1,4 @@
--- What the function behind the page makes of a record; no public promise cites it.
+-- What is made of a record by itself, from any bytes.
 -- Vocabulary: as_one_pair.
 use Rattle.std.specs.Prelude.{ℕ, List}
 use Rattle.tag.specs.Pairing.{pair_at_answer_of}

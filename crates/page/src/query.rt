@@ -16,11 +16,14 @@ pub struct Query {
 
 impl Record for Query {
     ghost use Rattle.page.specs.Page.{filled};
+    ghost use Rattle.page.specs.Passes.{as_one_pair};
+
+    ghost as_one_pair = { as_one_pair };
 
     ghost filled = { filled };
 
     // A pair from positions asks question 9 once more: it must be right for every tag file. The compiler asks it once, before the loop.
-    #[tactic(auto, using(crate::proofs::Filled::pair_filled), unfolding(crate::specs::Page::filled, crate::specs::Page::with_answer))]
+    #[tactic(auto, using(crate::proofs::Filled::pair_filled), unfolding(crate::specs::Passes::as_one_pair, crate::specs::Page::filled, crate::specs::Page::with_answer))]
     fn answered(self, tags: &[u8]) -> Self {
         let answer = tag::pair_at::<Tag>(tags, self.first, self.second);
         Query { answer, ..self }

@@ -8,12 +8,16 @@ use tag::{Label, Tag};
 
 /// Two positions, and the place for their answer. What stands there before is not read.
 pub trait Record: Copy {
+    // The record with the answer of a single pair at its positions, from any bytes: question 9 is asked of them once more.
+    ghost as_one_pair: { List ℕ → Self → Self };
+
     // The record with the answer for its positions, from a file of whole tags.
     ghost filled: { List ℕ → Self → Self };
 
-    /// The record with the answer for its positions.
+    /// The record with the answer of a single pair at its positions. Of a file of whole tags it is the record of a page.
     fn answered(self, tags: &[u8]) -> Self
-        ensures { length tags.now % tag_length ≡ 0 → result ≡ filled tags.now self };
+        ensures value { result ≡ as_one_pair tags.now self }
+        ensures of_whole_tags { length tags.now % tag_length ≡ 0 → result ≡ filled tags.now self };
 }
 
 /// Question 9 of the tag file, which is asked once for a page.
@@ -38,9 +42,9 @@ pub fn fill<R: Record>(tags: &[u8], records: &mut [R]) -> Result<(), Refusal>
     ensures value { result ≡ page_answer_of tags.now }
     ensures records_after { records.new ≡ if_filled (page_answer_of tags.now) (map (R.filled tags.now) records.old) records.old }
 {
-    ask(tags)?;
-    for record in records {
+    let count = to_fill(tags, records.len());
+    for record in &mut records[..count] {
         *record = record.answered(tags);
     }
-    Ok(())
+    ask(tags)
 }

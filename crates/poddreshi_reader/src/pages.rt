@@ -18,11 +18,13 @@ pub struct PackedQuery {
 }
 
 impl Record for PackedQuery {
-    ghost use Rattle.poddreshi_reader.specs.Pages.{packed_filled};
+    ghost use Rattle.poddreshi_reader.specs.Pages.{packed_filled, as_one_packed_pair};
+
+    ghost as_one_pair = { as_one_packed_pair };
 
     ghost filled = { packed_filled };
 
-    #[tactic(auto, using(page::proofs::Filled::pair_filled), unfolding(crate::specs::Pages::packed_filled, crate::specs::Pages::packed_with))]
+    #[tactic(auto, using(page::proofs::Filled::pair_filled), unfolding(crate::specs::Pages::as_one_packed_pair, crate::specs::Pages::packed_filled, crate::specs::Pages::packed_with))]
     fn answered(self, tags: &[u8]) -> Self {
         let answer = poddreshi_pair_at(tags, self.first, self.second);
         PackedQuery { answer, ..self }

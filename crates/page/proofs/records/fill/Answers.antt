@@ -1,7 +1,9 @@
--- `page::records::fill` meets its contract: it is the loop of `Filling`, over records of any type.
-use Rattle.std.proofs.Common.{length, refl, sym, ◌∙◌, arith}
-use Rattle.page.proofs.Filled.{up_to, page_whole, whole_page}
-use Rattle.page.proofs.Filling.{walk, meets}
+-- `page::records::fill` meets its contract: it is the loop of `Filling`, over those records of any type that are to be filled.
+use Rattle.std.proofs.Common.{◌≡◌, ◌<◌, length, refl, arith, take}
+use Rattle.std.proofs.lemmas.List.{length-take}
+use Rattle.page.specs.Page.{page_answer_of, to_fill}
+use Rattle.page.proofs.Filled.{up_to}
+use Rattle.page.proofs.Filling.{walk, filled_whole, in_part}
 use Rattle.page.proofs.records.fill.Goals as goal
 
 pub loop-record-init : goal.loop-record-init
@@ -10,13 +12,14 @@ loop-record-init g c = refl
 
 pub loop-record-preserved : goal.loop-record-preserved
 loop-record-preserved g c =
-    let tags = c.args.tags.now in let f = g.R.Record.filled tags in let loop = c.loop-record in let item = c.record-item in
-    let whole = whole_page tags (sym c.ask.ensures ∙ c.in_ok-ask.was) in
-    walk f _ _ _ loop.invariant item.result _ (c.answered.ensures whole) (omega arith)
+    let tags = c.args.tags.now in let records = c.args.records.now in let loop = c.loop-record in let item = c.record-item in
+    let within : loop.record-index < to_fill (page_answer_of tags) (length records) =
+    omega (arith, length-take c.to_fill-count.result records, c.to_fill-count.ensures) in
+    let whole = filled_whole tags _ _ within in
+    walk (g.R.Record.filled tags) _ _ _ loop.invariant item.result _ (c.answered.ensures.of_whole_tags whole) (omega arith)
 
 pub returns-clause-records_after : goal.returns-clause-records_after
 returns-clause-records_after g c =
-    let tags = c.args.tags.now in let f = g.R.Record.filled tags in let loop = c.loop-record in
-    let whole = whole_page tags (sym c.ask.ensures ∙ c.in_ok-ask.was) in
-    meets f _ _ _ loop.invariant tags f (λ w x. refl) (length c.args.records.now)
-    (rw (← page_whole tags whole)) (omega arith) (omega arith)
+    let tags = c.args.tags.now in let records = c.args.records.now in let loop = c.loop-record in
+    let all : loop.record-index ≡ length (take c.to_fill-count.result records) = omega arith in
+    rw (loop.invariant, all, c.to_fill-count.ensures) (in_part (g.R.Record.filled tags) records (page_answer_of tags))
