@@ -84,11 +84,33 @@ module _ (offsets : List ℕ) (bound size : ℕ) where
           let half : width - 1 ≡ 1 = omega arith in
           rw half (bracket_found _ _ (omega arith) (bracket_turn low width 1 sorted s (omega arith) (omega arith)))
 
+-- What a comparison takes of a half is at most the half.
+pub taken_most : (half : ℕ) (t : Bool) → half * bool_byte t ≤ half
+taken_most half true = omega arith
+taken_most half false = omega arith
+
 -- How many of the next three quarters begin before the bound, as the search counts them.
 abbrev pub quarters_before : List ℕ → (bound low quarter : ℕ) → ℕ
 quarters_before offsets bound low quarter =
     bool_byte (ltb (get_or offsets (low + quarter) 0) bound) + bool_byte (ltb (get_or offsets (low + 2 * quarter) 0) bound)
     + bool_byte (ltb (get_or offsets (low + 3 * quarter) 0) bound)
+
+-- What they take of a quarter is at most three of it.
+times_most : (quarter n : ℕ) → n ≤ 3 → quarter * n ≤ 3 * quarter
+times_most quarter zero h = omega arith
+times_most quarter (suc zero) h = omega arith
+times_most quarter (suc (suc zero)) h = omega arith
+times_most quarter (suc (suc (suc zero))) h = omega arith
+times_most quarter (suc (suc (suc (suc n)))) h = absurd (omega arith)
+
+three_most : (a b c : Bool) → bool_byte a + bool_byte b + bool_byte c ≤ 3
+three_most a b c = omega (arith, taken_most 1 a, taken_most 1 b, taken_most 1 c)
+
+pub quarters_most : (offsets : List ℕ) (bound low quarter : ℕ) → (quarters_before offsets bound low quarter ≤ 3)
+    × (quarter * quarters_before offsets bound low quarter ≤ 3 * quarter)
+quarters_most offsets bound low quarter =
+    let most = three_most (ltb (get_or offsets (low + quarter) 0) bound) (ltb (get_or offsets (low + 2 * quarter) 0) bound) (ltb
+    (get_or offsets (low + 3 * quarter) 0) bound) in (most, times_most quarter _ most)
 
 module _ (offsets : List ℕ) (bound size low quarter : ℕ) (sorted : Sorted offsets size) (s : Bracket offsets bound size low (4 * quarter)) where
   some : 0 < quarter

@@ -6,7 +6,7 @@ use Prim.Native.Nat.{ℕ, zero, suc, ◌+◌, ◌-◌, ◌≤◌, ◌<◌}
 use mathlib.Core.{Bool.Bool, Path.◌≡◌, Path.refl, Path.sym, Path.ap, Path.◌∙◌, Logic.⊎_elim, List.List}
 use native.Mathlib.Omega.{arith}
 use native.Mathlib.Nat.{le_antisymm}
-use lib.ListN.{get_or}
+use lib.ListN.{length, get_or}
 use borrow.Author.Tests.{le-ltb}
 use Rattle.sequences.specs.Table.{Holds}
 use Rattle.sequences.proofs.Tests.{lt_or_ge}
@@ -241,6 +241,10 @@ module _ (file : List ℕ) (ok : AcceptedPlan file) where
     pub upward : (at : ℕ) → at < window_count file → Upward parents at
     unfolding parent_of
     upward at h v l = omega (arith, held.at v (omega arith), parent_le (overlaps file) v)
+
+    -- The table has an entry for every window.
+    pub within_parents : (at : ℕ) → at < window_count file → at < length parents
+    within_parents at h = omega (arith, held.long)
 
     -- The entry of a window is its parent, or the window itself for a root.
     pub entry_parent : (v p : ℕ) → Some p ≡ above file v → (get_or parents v 0 ≡ p) × (p < v)

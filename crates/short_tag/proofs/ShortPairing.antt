@@ -1,14 +1,16 @@
 -- Laws of the answer from two short tags: by their readings, by the numbers of two that are read, in either order; and for two
 -- positions of a file of them. They are those of `tag`, which hold of either form.
--- Vocabulary: short_*, pair_short_bytes.
+-- Vocabulary: short_*, unequal_depth, equal_fields, pair_short_bytes.
 -- Assumes nothing.
 use Prim.Native.Nat.{ℕ, ◌*◌, ◌/◌, ◌%◌, ◌<◌}
-use mathlib.Core.{Bool.true, Path.◌≡◌, Path.refl, Path.sym, List.List}
+use mathlib.Core.{Bool.true, Bool.false, Path.◌≡◌, Path.refl, Path.sym, Logic.⊎_elim, List.List}
+use lib.Dec.{eqb}
 use native.Mathlib.Omega.{arith}
 use lib.ListN.{length}
-use borrow.Author.Tests.{eq-eqb, lt-ltb}
+use borrow.Author.Tests.{eq-eqb, ne_eqb, lt-ltb}
 use Rattle.std.specs.Prelude.{Ok, Err}
-use Rattle.interval_graph.specs.Numbers.{Numbers, short, short_between}
+use Rattle.sequences.proofs.Tests.{truth}
+use Rattle.interval_graph.specs.Numbers.{Numbers, equal, short, short_between}
 use Rattle.interval_graph.proofs.Outcome.{short_symmetric}
 use Rattle.refusals.specs.declared.Refusal.{Refusal}
 use Rattle.refusals.specs.Question.{refusal_from, asked_of}
@@ -34,6 +36,20 @@ module _ (first second : List ℕ) where
   pub short_valid : (a b : ShortTag) → short_read_answer_of first ≡ Ok a → short_read_answer_of second ≡ Ok b →
       short_pair_answer_of first second ≡ compared_by short_between (short_numbers a) (short_numbers b)
   short_valid = both_valid short_length short_tag_of short_numbers short_between first second
+
+-- What question 12 asks of short tags.
+module _ (u v : Numbers) where
+  -- Equal tags have one depth, and tags that agree in every field are equal.
+  pub unequal_depth : (u.depth ≡ v.depth → ⊥) → equal u v ≡ false
+  unfolding equal
+  unequal_depth other =
+      rw (ne_eqb _ _ other) (⊎_elim (λ t. rw t (⊎_elim (λ s. rw s) (λ s. rw s) (truth (eqb u.component v.component)))) (λ t. rw t)
+      (truth (eqb u.plan v.plan)))
+
+  pub equal_fields : u.plan ≡ v.plan → u.component ≡ v.component → u.depth ≡ v.depth → u.rank ≡ v.rank → u.last ≡ v.last →
+      equal u v ≡ true
+  unfolding equal
+  equal_fields p c d r l = rw (eq-eqb _ _ p, eq-eqb _ _ c, eq-eqb _ _ d, eq-eqb _ _ r, eq-eqb _ _ l)
 
 -- Two byte strings that both read answer the same in either order, a refusal by 11 or 12 included.
 pub short_pair_symmetric : (first second : List ℕ) (a b : ShortTag) → short_read_answer_of first ≡ Ok a →

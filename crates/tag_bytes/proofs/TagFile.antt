@@ -1,13 +1,14 @@
 -- Laws of a tag file: what each answer of a lookup shows, and the part at a position, of any tag file and of one that is written
 -- tag after tag.
--- Vocabulary: lookup_*, part_*, length-*, tag_file_*, short_tag_file_*, short_tag_file-*.
+-- Vocabulary: lookup_*, found_*, part_*, length-*, tag_file_*, short_tag_file_*, short_tag_file-*.
 -- Assumes nothing.
-use Prim.Native.Nat.{ℕ, zero, suc, ◌*◌, ◌/◌, ◌%◌, ◌≤◌, ◌<◌}
+use Prim.Native.Nat.{ℕ, zero, suc, ◌+◌, ◌*◌, ◌/◌, ◌%◌, ◌≤◌, ◌<◌}
 use mathlib.Core.Path.{◌≡◌, refl, sym, ap, ◌∙◌}
 use mathlib.Core.List.{List, [], ◌∷◌, ◌++◌, append-nil, flat_map}
 use native.Mathlib.Omega.{arith}
 use lib.ListN.{length}
-use borrow.Author.Tests.{eq-eqb, ne_eqb, lt-ltb, le-ltb}
+use mathlib.Core.List.Memᴰ
+use borrow.Author.Tests.{eq-eqb, ne_eqb, lt-ltb, le-ltb, ltb-true}
 use Rattle.std.specs.Prelude.{Ok, Err}
 use Rattle.sequences.specs.Table.{table}
 use Rattle.sequences.proofs.Table.{length_table, get_or-table, table_cong}
@@ -16,8 +17,9 @@ use Rattle.sequences.proofs.Records.{length_records, record_part}
 use Rattle.interval_graph.specs.Numbers.{Numbers, short}
 use Rattle.refusals.specs.declared.Refusal.{Refusal}
 use Rattle.refusals.specs.Question.{refusal_by, asked_of}
+use Rattle.refusals.proofs.Questions.{all_member, asked_yes}
 use Rattle.tag_bytes.specs.Fields.{tag_length, tag_bytes, short_length, short_bytes}
-use Rattle.tag_bytes.specs.TagFile.{tag_file, tag_count, part_of, tag_part, lookup_in, lookup_answer_of, looked_up, lookup_part, short_tag_file}
+use Rattle.tag_bytes.specs.TagFile.{tag_file, tag_count, part_of, tag_part, lookup_in, lookup_questions, lookup_answer_of, looked_up, lookup_part, short_tag_file}
 use Rattle.tag_bytes.proofs.Fields.{length-tag_bytes, length-short_bytes}
 
 -- A file of tags that have so many bytes, and a position.
@@ -47,6 +49,13 @@ module _ (tags : List ℕ) (at : ℕ) where
   -- Else the tag is found.
   pub lookup_found : length tags % tag_length ≡ 0 → at < tag_count tags → Ok tt ≡ lookup_answer_of tags at
   lookup_found = found_in tag_length tags at
+
+  -- What is found lies whole within the tag file.
+  pub found_within : lookup_answer_of tags at ≡ Ok tt → tag_length * at + tag_length ≤ length tags
+  found_within e =
+      let passed = all_member (lookup_questions tags at) (asked_yes (lookup_questions tags at) e) in
+      let within : at < length tags / tag_length = ltb-true _ _ (passed _ (Memᴰ.tail (Memᴰ.head refl))) in
+      omega arith
 
   -- The part that is handed back where the tag is found.
   pub part_found : lookup_answer_of tags at ≡ Ok tt → lookup_part tags at ≡ tag_part tags at
