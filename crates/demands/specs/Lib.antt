@@ -13,6 +13,8 @@
 --   module _ (x : A) where        all that is indented below it takes x as its first argument
 --   abbrev, unfoldable, pub       say how proofs may use a definition, and nothing of what it means
 --   f.g               the field g of f. Names such as PairAnswer.NoChain are the answers of the code's own enums
+--   Ok a, Err r       what else a call answers: a, or the refusal r. tt: that it is done, where there is no more to say
+--   Some a, None      a, or nothing. Names such as built_as and reach_as are Ok of a record with these fields
 --
 -- What to read, in this order, and what it rests on:
 --   EndToEnd  demand 3, of a call that runs all of it. It rests on chains (interval_graph/specs/Chain), windows and their bytes

@@ -3,7 +3,7 @@
 --   Searching     the searches inside the passes
 --   Prepared      what they find in an accepted plan: parents and lasts
 --   Reached       the test of overlap, and the last of a window
---   SingleTabled  the answers, and a table that holds any plan's
+--   SingleTabled  the answers, and what a table that is filled holds
 --   EvenTabled    the same for an even plan
 --   Plan12        the worked example, by computation
 pub mod Reading
