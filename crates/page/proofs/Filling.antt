@@ -18,7 +18,7 @@ use Rattle.sequences.proofs.Tests.{equal_or_not}
 use Rattle.refusals.specs.declared.refusal.Refusal.{Refusal}
 use Rattle.tag_bytes.specs.Fields.{tag_length}
 use Rattle.page.specs.Page.{page_answer_of, if_filled, to_fill}
-use Rattle.page.proofs.Filled.{up_to, up_to_all, up_to_more, page_9, page_filled}
+use Rattle.page.proofs.Filled.{up_to, up_to_more, page_9, page_filled}
 
 module _ {A : Type 0} (f : A → A) (before now : List A) (i : ℕ) (so_far : now ≡ up_to f i before) where
   -- The record at i is replaced by what is made of the one that stands there.
@@ -40,9 +40,13 @@ filled_whole tags i records = ⊎_elim
     (λ less. absurd (omega (arith, less))))
     (equal_or_not (length tags % tag_length) 0)
 
--- The records that are to be filled replaced each by f of itself, and behind them those that are not: the page afterwards.
-pub in_part : {A : Type 0} (f : A → A) (l : List A) (answer : Result (Unit {0}) Refusal) →
-    up_to f (length (take (to_fill answer (length l)) l)) (take (to_fill answer (length l)) l) ++ drop (to_fill answer (length l)) l
-    ≡ if_filled answer (map f l) l
-in_part f l (Ok tt) = rw (take-length l, drop-length l, up_to_all f l) (append-nil (map f l))
-in_part f l (Err r) = rw (up_to_all f (take 0 l)) refl
+-- Of those that are to be filled all are.
+pub filled_again : (answer : Result (Unit {0}) Refusal) (records count : ℕ) → count ≡ to_fill answer records → count ≡ to_fill answer count
+filled_again (Ok tt) records count e = refl
+filled_again (Err r) records count e = e
+
+-- The part that is to be filled as it is to be, and behind it the records that are not: the page afterwards.
+pub in_part : {A : Type 0} (f : A → A) (l part : List A) (answer : Result (Unit {0}) Refusal) (count : ℕ) → count ≡ to_fill answer (length l) →
+    part ≡ if_filled answer (map f (take count l)) (take count l) → part ++ drop count l ≡ if_filled answer (map f l) l
+in_part f l part (Ok tt) count e filled = rw (filled, e, take-length l, drop-length l) (append-nil (map f l))
+in_part f l part (Err r) count e filled = rw (filled, e) refl
