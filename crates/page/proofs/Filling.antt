@@ -3,7 +3,7 @@
 -- Before each turn the first i records are replaced and the others as they were (`up_to`). All that is known of the callees is what they give
 -- back: `walk` takes a turn, and `meets` says what the loop leaves behind.
 -- Where a part of the records is lent to the loop, those that are to be filled, `in_part` says what the whole then is.
--- Vocabulary: walk, meets, filled_whole, in_part.
+-- Vocabulary: walk, meets, filled_whole, filled_again, in_part.
 -- Assumes nothing.
 use Prim.Native.Nat.{ℕ, ◌+◌, ◌%◌, ◌<◌, ◌≤◌}
 use mathlib.Core.{Path.◌≡◌, Path.refl, Path.subst, Path.◌∙◌, List.List, List.map, Logic.⊎_elim}
